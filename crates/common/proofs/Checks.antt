@@ -1,0 +1,140 @@
+-- Laws of an order of checks, and what its first fault means.
+-- Assumes nothing.
+use Prim.Native.Nat.{ℕ, zero, suc, _+_, _≤_, _<_, suc-le-suc}
+use mathlib.Core.Path.{_≡_, refl, sym, _∙_, ap}
+use mathlib.Core.Bool.{Bool, true, false, cond, _||_}
+use mathlib.Core.List.{List, [], _∷_, _++_, append-assoc}
+use native.Mathlib.Nat.{add-zero, le-of-suc-le-suc}
+use native.Mathlib.Omega.{arith}
+use native.Mathlib.Numerals.{add-one}
+use lib.ListN.{length, getD, drop, drop-of-length-le}
+use lib.Seq.{drop-cons}
+use Rattle.common.specs.Lists.{any}
+use Rattle.common.specs.Checks.{Finding, clean, fault, Check, check, told, firstFault, eachFrom, AllPass, First}
+use Rattle.common.proofs.Tests.{either-false}
+
+-- what comes first where nothing was found before
+abbrev pub orElse : Finding → Finding → Finding
+orElse clean rest = rest
+orElse (fault k p d) rest = fault k p d
+
+pub clean-else : (f : Finding) → orElse f clean ≡ f
+clean-else clean = refl
+clean-else (fault k p d) = refl
+
+-- one check after another
+else-cond : (t : Bool) (k p d : ℕ) {r : Finding} (a b : Finding) → r ≡ orElse a b → cond t (fault k p d) r ≡ orElse (cond t (fault k p d) a) b
+else-cond true k p d a b h = refl
+else-cond false k p d a b h = h
+
+-- one list of checks after another
+pub fault-append : (a b : List Check) → firstFault (a ++ b) ≡ orElse (firstFault a) (firstFault b)
+unfolding firstFault
+fault-append [] b = refl
+fault-append (c ∷ a) b = else-cond (c .fails) (c .number) (c .place) (c .detail) (firstFault a) (firstFault b) (fault-append a b)
+
+module _ {A : Type 0} (f : ℕ → A → List Check) where
+  -- the checks of the element that is counted i, then those of the rest
+  pub each-step : (xs : List A) (i : ℕ) (d : A) → i < length xs
+      → firstFault (eachFrom i f (drop i xs)) ≡ orElse (firstFault (f i (getD xs i d))) (firstFault (eachFrom (i + 1) f (drop (i + 1) xs)))
+  unfolding eachFrom
+  each-step xs i d h =
+      let e : drop i xs ≡ getD xs i d ∷ drop (i + 1) xs = rw (add-one, drop-cons xs i d h) in
+      rw e (fault-append (f i (getD xs i d)) (eachFrom (i + 1) f (drop (i + 1) xs)))
+
+  pub each-end : (xs : List A) (i : ℕ) → length xs ≤ i → eachFrom i f (drop i xs) ≡ []
+  unfolding eachFrom
+  each-end xs i h = rw (drop-of-length-le xs h)
+
+-- WHAT IT MEANS: nothing is found exactly if every check passes,
+clean-cond : (t : Bool) (k p d : ℕ) (r : Finding) → cond t (fault k p d) r ≡ clean → (t ≡ false) × (r ≡ clean)
+clean-cond true k p d r e = let z : _≡_ {A = ℕ} 0 1 = cc in absurd (omega arith)
+clean-cond false k p d r e = (refl, e)
+
+pub clean-means : (cs : List Check) → firstFault cs ≡ clean → AllPass cs
+unfolding firstFault any
+clean-means [] e = refl
+clean-means (c ∷ cs) e =
+    let d = clean-cond (c .fails) (c .number) (c .place) (c .detail) (firstFault cs) e in
+    rw (d .0) (clean-means cs (d .1))
+
+pub means-clean : (cs : List Check) → AllPass cs → firstFault cs ≡ clean
+unfolding firstFault any
+means-clean [] e = refl
+means-clean (c ∷ cs) e =
+    let d = either-false (c .fails) (any (λ x. x .fails) cs) e in
+    rw (d .0) (means-clean cs (d .1))
+
+-- and a fault exactly if it is the first of the list.
+fault-cond : (c : Check) (cs : List Check) (k p d : ℕ) (t : Bool) → c .fails ≡ t → cond t (told c) (firstFault cs) ≡ fault k p d
+    → (firstFault cs ≡ fault k p d → First cs k p d) → First (c ∷ cs) k p d
+unfolding any
+fault-cond c cs k p d true q e ih =
+    record {
+      before = [];
+      after = cs;
+      split = ap (λ (x : Check). x ∷ cs) (λ i. record { fails = q i; number = number-of e i; place = place-of e i; detail = detail-of e i });
+      earlier-pass = refl;
+    }
+  where
+    number-of : told c ≡ fault k p d → c .number ≡ k
+    number-of h = cc
+
+    place-of : told c ≡ fault k p d → c .place ≡ p
+    place-of h = cc
+
+    detail-of : told c ≡ fault k p d → c .detail ≡ d
+    detail-of h = cc
+fault-cond c cs k p d false q e ih =
+    let f = ih e in
+    record {
+      before = c ∷ f .before;
+      after = f .after;
+      split = ap (λ (xs : List Check). c ∷ xs) (f .split);
+      earlier-pass = rw q (f .earlier-pass);
+    }
+
+pub fault-means : (cs : List Check) (k p d : ℕ) → firstFault cs ≡ fault k p d → First cs k p d
+unfolding firstFault
+fault-means [] k p d e = let z : _≡_ {A = ℕ} 0 1 = cc in absurd (omega arith)
+fault-means (c ∷ cs) k p d e = fault-cond c cs k p d (c .fails) refl e (fault-means cs k p d)
+
+pub means-fault : (cs : List Check) (k p d : ℕ) → First cs k p d → firstFault cs ≡ fault k p d
+unfolding firstFault
+means-fault cs k p d f =
+    rw (f .split) (fault-append (f .before) (check true k p d ∷ f .after) ∙ rw (means-clean (f .before) (f .earlier-pass)))
+
+-- IN PARTS: a list of checks finds nothing exactly if its parts do, and a check if it passes.
+pub one-clean : (b : Bool) (k p d : ℕ) (cs : List Check) → firstFault (check b k p d ∷ cs) ≡ clean → (b ≡ false) × (firstFault cs ≡ clean)
+unfolding firstFault
+one-clean b k p d cs e = clean-cond b k p d (firstFault cs) e
+
+pub clean-one : (b : Bool) (k p d : ℕ) (cs : List Check) → b ≡ false → firstFault cs ≡ clean → firstFault (check b k p d ∷ cs) ≡ clean
+unfolding firstFault
+clean-one b k p d cs e f = rw e f
+
+both-clean : (a b : Finding) → orElse a b ≡ clean → (a ≡ clean) × (b ≡ clean)
+both-clean clean b e = (refl, e)
+both-clean (fault k p d) b e = let z : _≡_ {A = ℕ} 0 1 = cc in absurd (omega arith)
+
+pub append-clean : (a b : List Check) → firstFault (a ++ b) ≡ clean → (firstFault a ≡ clean) × (firstFault b ≡ clean)
+append-clean a b e = both-clean (firstFault a) (firstFault b) (sym (fault-append a b) ∙ e)
+
+pub clean-append : (a b : List Check) → firstFault a ≡ clean → firstFault b ≡ clean → firstFault (a ++ b) ≡ clean
+clean-append a b e f = fault-append a b ∙ rw e f
+
+module _ {A : Type 0} (f : ℕ → A → List Check) (d : A) where
+  pub each-clean : (i : ℕ) (xs : List A) → firstFault (eachFrom i f xs) ≡ clean → (j : ℕ) → j < length xs → firstFault (f (i + j) (getD xs j d)) ≡ clean
+  unfolding eachFrom
+  each-clean i [] e j l = absurd (omega arith)
+  each-clean i (x ∷ xs) e zero l = rw add-zero (append-clean (f i x) (eachFrom (i + 1) f xs) e .0)
+  each-clean i (x ∷ xs) e (suc j) l =
+      let q : i + 1 + j ≡ i + suc j = omega arith in
+      rw (← q) (each-clean (i + 1) xs (append-clean (f i x) (eachFrom (i + 1) f xs) e .1) j (le-of-suc-le-suc l))
+
+  pub clean-each : (i : ℕ) (xs : List A) → ((j : ℕ) → j < length xs → firstFault (f (i + j) (getD xs j d)) ≡ clean) → firstFault (eachFrom i f xs) ≡ clean
+  unfolding eachFrom firstFault
+  clean-each i [] g = refl
+  clean-each i (x ∷ xs) g =
+      clean-append (f i x) (eachFrom (i + 1) f xs) (rw add-zero at (g 0 (omega arith)))
+      (clean-each (i + 1) xs (λ j l. let q : i + 1 + j ≡ i + suc j = omega arith in rw q (g (suc j) (suc-le-suc l))))

@@ -1,0 +1,47 @@
+-- An order of checks, and the first of them that fails.
+-- Assumes nothing.
+use Prim.Native.Nat.{ℕ, _+_}
+use mathlib.Core.Path.{_≡_}
+use mathlib.Core.Bool.{Bool, true, false, cond}
+use mathlib.Core.List.{List, [], _∷_, _++_}
+use Rattle.common.specs.Lists.{any}
+
+-- what a list of checks comes to: nothing fails, or the first that does, by its number, place and detail
+pub data Finding : Type 0 where
+  clean : Finding
+  fault : ℕ → ℕ → ℕ → Finding
+
+-- whether it fails, and what is then told: the number, its place and its detail
+pub record Check : Type 0 where
+  pub fails : Bool
+  pub number : ℕ
+  pub place : ℕ
+  pub detail : ℕ
+
+abbrev pub check : Bool → ℕ → ℕ → ℕ → Check
+check b k p d = record { fails = b; number = k; place = p; detail = d }
+
+-- what a check that fails tells
+abbrev pub told : Check → Finding
+told c = fault (c .number) (c .place) (c .detail)
+
+-- the first check of the list that fails
+unfoldable pub firstFault : List Check → Finding
+firstFault [] = clean
+firstFault (c ∷ cs) = cond (c .fails) (told c) (firstFault cs)
+
+-- the checks of each element in turn, the first of which is counted i
+unfoldable pub eachFrom : {A : Type 0} → ℕ → (ℕ → A → List Check) → List A → List Check
+eachFrom i f [] = []
+eachFrom i f (x ∷ xs) = f i x ++ eachFrom (i + 1) f xs
+
+-- WHAT IT MEANS. No check fails.
+abbrev pub AllPass : List Check → Type 0
+AllPass cs = any (λ c. c .fails) cs ≡ false
+
+-- A check of the list fails that tells this, and none before it fails.
+pub record First (cs : List Check) (k p d : ℕ) : Type 0 where
+  pub before : List Check
+  pub after : List Check
+  pub split : cs ≡ before ++ (check true k p d ∷ after)
+  pub earlier-pass : AllPass before
