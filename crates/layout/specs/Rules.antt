@@ -1,0 +1,84 @@
+-- What each rule kind asks of a field, and the first row of the layout that a record breaks (document 01, 'Values').
+-- Assumes nothing.
+use Prim.Native.Nat.{ℕ, _+_, _-_}
+use mathlib.Core.List.{List, [], _∷_}
+use mathlib.Core.Bool.{Bool, true, false, cond, not, _&&_, _||_}
+use lib.ListN.{getD, take, drop, length}
+use lib.Dec.{eqb, leb}
+use Rattle.common.specs.Least.{least}
+use Rattle.common.specs.Lists.{every, byteAt}
+use Rattle.common.specs.Digits.{numberOf, valueOf, isWithin}
+use Rattle.layout.specs.Bytes.{isText, isBlank, byte-blank, byte-plus, byte-minus, byte-0, byte-N, byte-Y}
+use Rattle.layout.specs.Company.{isCompany, isTransferor}
+use Rattle.layout.specs.Dates.{isDay}
+use Rattle.layout.specs.Layout.{layout, noRow, rows, TEXT, TRANSFEROR, RAILWAY, NUMBER, NUMBER-OR-BLANK, FLAG, FLAG-OR-BLANK, MOST-PERSONS, ROUNDING, FACTOR, FIRST-DAY, LAST-DAY}
+use Rattle.layout.specs.declared.Row.{Row}
+
+abbrev pub isFlag : ℕ → Bool
+isFlag b = eqb b byte-Y || eqb b byte-N
+
+-- "Field 27 alone may be blank, which means N."
+abbrev pub flagOrBlank : ℕ → Bool
+flagOrBlank b = eqb b byte-blank || isFlag b
+
+-- "Rounding is one of + - 0 N."
+abbrev pub isRounding : ℕ → Bool
+isRounding b = eqb b byte-plus || (eqb b byte-minus || (eqb b byte-0 || eqb b byte-N))
+
+unfoldable pub numberOrBlank : ℕ → ℕ → List ℕ → Bool
+numberOrBlank lowest highest s = every isBlank s || isWithin lowest highest (numberOf s)
+
+-- "most persons 01-99; two blanks mean .. 99. .. If most is 01-98, least must not be above it"; a blank least is 00
+unfoldable pub mostPersons : List ℕ → List ℕ → Bool
+mostPersons fewest s =
+    every isBlank s
+    || (isWithin 1 99 (numberOf s) && (eqb (valueOf (numberOf s)) 99 || leb (valueOf (numberOf fewest)) (valueOf (numberOf s))))
+
+-- "Factor is three digits, 000-999, in cents; 000 is a fault unless rounding is N."
+unfoldable pub factorRule : ℕ → List ℕ → Bool
+factorRule mode s = isWithin (cond (eqb mode byte-N) 0 1) 999 (numberOf s)
+
+unfoldable pub firstDayRule : List ℕ → Bool
+firstDayRule s = isDay (valueOf (numberOf s))
+
+-- "The last day must not be before the first"
+unfoldable pub lastDayRule : List ℕ → List ℕ → Bool
+lastDayRule first s = firstDayRule s && leb (valueOf (numberOf first)) (valueOf (numberOf s))
+
+-- the bytes of a field, whose positions count from 1
+abbrev pub fieldAt : ℕ → ℕ → List ℕ → List ℕ
+fieldAt start len body = take len (drop (start - 1) body)
+
+-- what the rule kind asks: the first of the list that has its number
+unfoldable pub ruled : ℕ → List (ℕ × Bool) → Bool
+ruled kind [] = false
+ruled kind (r ∷ rs) = cond (eqb kind (r .0)) (r .1) (ruled kind rs)
+
+-- The rules of a row over its record. Three look back in the record: most persons at the two bytes of the least before it, the factor at the
+-- rounding byte before it, and the last day at the first day, which the two bytes of the version part from it.
+unfoldable pub obeysRow : Row → List ℕ → Bool
+obeysRow row body =
+    let s : List ℕ = fieldAt (row .start) (row .length) body in
+    let byte : ℕ = byteAt (row .start) body in
+    ruled (row .kind) (
+    (TEXT, every isText s) ∷
+    (TRANSFEROR, isTransferor s) ∷
+    (RAILWAY, isCompany s) ∷
+    (NUMBER, isWithin (row .least) (row .most) (numberOf s)) ∷
+    (NUMBER-OR-BLANK, numberOrBlank (row .least) (row .most) s) ∷
+    (FLAG, isFlag byte) ∷
+    (FLAG-OR-BLANK, flagOrBlank byte) ∷
+    (MOST-PERSONS, mostPersons (fieldAt (row .start - 2) 2 body) s) ∷
+    (ROUNDING, isRounding byte) ∷
+    (FACTOR, factorRule (byteAt (row .start - 1) body) s) ∷
+    (FIRST-DAY, firstDayRule s) ∷
+    (LAST-DAY, lastDayRule (fieldAt (row .start - 10) 8 body) s) ∷
+    [])
+
+-- row k is of the table, and the record breaks it
+abbrev pub breaks : ℕ → List ℕ → ℕ → Bool
+breaks table body k = eqb (getD layout k noRow .table) table && not (obeysRow (getD layout k noRow) body)
+
+-- the first row that a record of the table breaks; `rows` where it breaks none
+unfoldable pub brokenRow : ℕ → List ℕ → ℕ
+brokenRow table body = least (breaks table body) rows
