@@ -1,0 +1,140 @@
+-- What each record adds to the two passes: the laws that their loops cite.
+-- Assumes nothing.
+use Prim.Native.Nat.{ℕ, _+_, _-_, _≤_, _<_}
+use mathlib.Core.Path.{_≡_, refl, sym, _∙_, ap}
+use mathlib.Core.Bool.{Bool, true, false, cond, not, _&&_}
+use mathlib.Core.List.{List, [], _∷_, _++_}
+use native.Mathlib.Omega.{arith}
+use lib.Dec.{ltb}
+use lib.ListN.{length, getD, take, drop, length-drop, drop-of-length-le}
+use borrow.Author.Tests.{lt-ltb, le-ltb}
+use Rattle.common.specs.Lists.{same}
+use Rattle.common.specs.Checks.{Finding, clean, fault, Check, check, firstFault, eachFrom}
+use Rattle.common.proofs.Checks.{orElse, fault-append}
+use Rattle.layout.specs.Layout.{layout, noRow, rows}
+use Rattle.layout.specs.Rules.{brokenRow}
+use Rattle.bundle.specs.Records.{Rec, rec, noRec, stepOf, recordsOf, restOf}
+use Rattle.bundle.specs.Keys.{transferorOf, otherTransferor, earlierOf}
+use Rattle.bundle.specs.Links.{links, linkRows, noLink, missingLink}
+use Rattle.bundle.specs.Verdict.{limit, fieldChecks, endChecks, firstPass, recordChecks, secondPass, checks, judged, verdictOf}
+use Rattle.bundle.specs.declared.Judgement.the-variants.{Accepted, Refused}
+use Rattle.bundle.specs.declared.walk.Step.the-variants.{Unknown, Short, Whole}
+use Rattle.bundle.proofs.Steps.{nothing-there}
+use Rattle.bundle.proofs.Here.{Here, Over, unknown, short, bodyOf, here-cons, over-nil, over-rest, over-count}
+
+-- what the first pass finds from record i on
+abbrev pub firstFrom : List ℕ → ℕ → Finding
+firstFrom s i = firstFault (eachFrom i fieldChecks (drop i (recordsOf s)) ++ endChecks (length (recordsOf s)) (restOf s))
+
+pub first-start : (s : List ℕ) → firstFault (firstPass s) ≡ firstFrom s 0
+unfolding firstPass
+first-start s = refl
+
+module _ (s : List ℕ) (p i : ℕ) (h : Here s p i) where
+  module _ (t start next : ℕ) (e : stepOf (drop p s) ≡ Whole t start next) where
+    field-step : firstFrom s i
+        ≡ cond (ltb (brokenRow t (bodyOf start next (drop p s))) rows)
+        (fault 4 i (getD layout (brokenRow t (bodyOf start next (drop p s))) noRow .field))
+        (firstFrom s (i + 1))
+    unfolding eachFrom firstFault
+    field-step = rw (here-cons s p i h t start next e)
+
+    pub field-fault : brokenRow t (bodyOf start next (drop p s)) < rows
+        → firstFrom s i ≡ fault 4 i (getD layout (brokenRow t (bodyOf start next (drop p s))) noRow .field)
+    field-fault l = field-step ∙ rw (lt-ltb _ _ l)
+
+    pub fields-pass : rows ≤ brokenRow t (bodyOf start next (drop p s)) → firstFrom s i ≡ firstFrom s (i + 1)
+    fields-pass l = field-step ∙ rw (le-ltb _ _ l)
+
+  at-over : Over (drop p s) → firstFrom s i ≡ firstFault (endChecks i (drop p s))
+  unfolding eachFrom
+  at-over o = rw (over-nil s p i h o, over-count s p i h o, over-rest s p i h o)
+
+  pub first-unknown : p < length s → stepOf (drop p s) ≡ Unknown → firstFrom s i ≡ fault 2 i 0
+  unfolding firstFault
+  first-unknown l e =
+      let b : 0 < length (drop p s) = rw length-drop (omega arith) in
+      at-over (unknown e) ∙ rw (e, lt-ltb 0 (length (drop p s)) b)
+
+  pub first-short : p < length s → stepOf (drop p s) ≡ Short → firstFrom s i ≡ fault 3 i 0
+  unfolding firstFault
+  first-short l e =
+      let b : 0 < length (drop p s) = rw length-drop (omega arith) in
+      at-over (short e) ∙ rw (e, lt-ltb 0 (length (drop p s)) b)
+
+  pub first-end : length s ≤ p → (firstFrom s i ≡ clean) × (length (recordsOf s) ≡ i)
+  unfolding firstFault
+  first-end l =
+      let e : stepOf (drop p s) ≡ Unknown = rw (drop-of-length-le s l) nothing-there in
+      let b : length (drop p s) ≤ 0 = rw length-drop (omega arith) in
+      (at-over (unknown e) ∙ rw (e, le-ltb 0 (length (drop p s)) b), over-count s p i h (unknown e))
+
+-- what the second pass finds from record i on
+abbrev pub secondFrom : List Rec → ℕ → Finding
+secondFrom R i = firstFault (eachFrom i (recordChecks R) (drop i R))
+
+pub second-start : (R : List Rec) → firstFault (secondPass R) ≡ secondFrom R 0
+unfolding secondPass
+second-start R = refl
+
+module _ (R : List Rec) (i : ℕ) (r : Rec) (e : drop i R ≡ r ∷ drop (i + 1) R) where
+  record-step : secondFrom R i
+      ≡ cond (otherTransferor R r) (fault 5 i 0)
+      (cond (ltb (earlierOf R i r) i) (fault 6 i (earlierOf R i r))
+      (cond (ltb (missingLink R r) links) (fault 7 i (getD linkRows (missingLink R r) noLink .detail)) (secondFrom R (i + 1))))
+  unfolding eachFrom firstFault
+  record-step = rw e
+
+  pub other-fault : otherTransferor R r ≡ true → secondFrom R i ≡ fault 5 i 0
+  other-fault o = record-step ∙ rw o
+
+  module _ (o : otherTransferor R r ≡ false) where
+    pub key-fault : earlierOf R i r < i → secondFrom R i ≡ fault 6 i (earlierOf R i r)
+    key-fault l = record-step ∙ rw (o, lt-ltb _ _ l)
+
+    pub link-fault : i ≤ earlierOf R i r → missingLink R r < links → secondFrom R i ≡ fault 7 i (getD linkRows (missingLink R r) noLink .detail)
+    link-fault l m = record-step ∙ rw (o, le-ltb _ _ l, lt-ltb _ _ m)
+
+    pub record-passes : i ≤ earlierOf R i r → links ≤ missingLink R r → secondFrom R i ≡ secondFrom R (i + 1)
+    record-passes l m = record-step ∙ rw (o, le-ltb _ _ l, le-ltb _ _ m)
+
+pub second-end : (R : List Rec) (i : ℕ) → drop i R ≡ [] → secondFrom R i ≡ clean
+unfolding eachFrom firstFault
+second-end R i e = rw e
+
+-- a comparison of two transferors that were lent
+pub compared : (R : List Rec) (r : Rec) {b : Bool} {x y : List ℕ} → b ≡ same x y → x ≡ transferorOf r → y ≡ transferorOf (getD R 0 noRec)
+    → otherTransferor R r ≡ not b
+unfolding otherTransferor
+compared R r e f g = rw (e, f, g)
+
+-- a judgement tells what was found
+pub is-fault : (f : Finding) (n k p d : ℕ) → judged f n ≡ Refused k p d → f ≡ fault k p d
+is-fault clean n k p d e = let z : _≡_ {A = ℕ} 0 1 = cc in absurd (omega arith)
+is-fault (fault a b c) n k p d e =
+    let x : a ≡ k = cc in
+    let y : b ≡ p = cc in
+    let z : c ≡ d = cc in
+    rw (x, y, z)
+
+pub is-clean : (f : Finding) (n m : ℕ) → judged f n ≡ Accepted m → (f ≡ clean) × (n ≡ m)
+is-clean clean n m e = (refl, cc)
+is-clean (fault a b c) n m e = let z : _≡_ {A = ℕ} 0 1 = cc in absurd (omega arith)
+
+pub too-long : (s : List ℕ) → limit < length s → verdictOf s ≡ Refused 1 0 0
+unfolding verdictOf checks firstFault
+too-long s l = rw (lt-ltb _ _ l)
+
+module _ (s : List ℕ) (l : length s ≤ limit) where
+  in-order : firstFault (checks s) ≡ orElse (firstFault (firstPass s)) (firstFault (secondPass (recordsOf s)))
+  unfolding checks firstFault
+  in-order = rw (le-ltb _ _ l) (fault-append (firstPass s) (secondPass (recordsOf s)))
+
+  pub by-first : (k p d : ℕ) → judged (firstFault (firstPass s)) (length (recordsOf s)) ≡ Refused k p d → verdictOf s ≡ Refused k p d
+  unfolding verdictOf
+  by-first k p d e = rw (in-order, is-fault (firstFault (firstPass s)) (length (recordsOf s)) k p d e)
+
+  pub by-second : (m : ℕ) → judged (firstFault (firstPass s)) (length (recordsOf s)) ≡ Accepted m
+      → verdictOf s ≡ judged (firstFault (secondPass (recordsOf s))) (length (recordsOf s))
+  unfolding verdictOf
+  by-second m e = rw (in-order, is-clean (firstFault (firstPass s)) (length (recordsOf s)) m e .0)

@@ -1,0 +1,7 @@
+pub mod Records
+pub mod Keys
+pub mod Links
+pub mod Verdict
+pub mod Meaning
+pub mod Choice
+pub mod Fits

@@ -1,0 +1,30 @@
+// Many records: the walk over a bundle, its keys and links, and the verdict.
+ghost use mathlib.Core.Path.{_≡_};
+ghost use Rattle.bundle.specs.Verdict.{verdictOf};
+
+pub mod choice;
+mod keys;
+mod links;
+mod passes;
+pub mod walk;
+
+// The verdict on a bundle: how many records it has, or the first fault by number, place and detail.
+pub enum Judgement {
+    Accepted(usize),
+    Refused(u8, usize, usize),
+}
+
+const LIMIT: usize = 1048576;
+
+pub fn verdict(bundle: &[u8]) -> Judgement
+    ensures { λ r. ⌜ r ≡ verdictOf (now (bundle .entry)) ⌝ }
+{
+    if LIMIT < bundle.len() {
+        return Judgement::Refused(1, 0, 0);
+    }
+    let first = passes::first_pass(bundle);
+    match first {
+        Judgement::Refused(number, place, detail) => Judgement::Refused(number, place, detail),
+        Judgement::Accepted(_) => passes::second_pass(bundle),
+    }
+}

@@ -1,0 +1,83 @@
+// The two passes over a bundle's records.
+ghost use mathlib.Core.Path.{_≡_};
+ghost use lib.ListN.{length};
+ghost use Rattle.common.specs.Checks.{firstFault};
+ghost use Rattle.bundle.specs.Records.{recordsOf};
+ghost use Rattle.bundle.specs.Verdict.{judged, firstPass, secondPass};
+use super::Judgement;
+use super::walk::Step;
+
+// Each record by itself: 2, then 3, then 4.
+pub fn first_pass(bundle: &[u8]) -> Judgement
+    ensures { λ r. ⌜ r ≡ judged (firstFault (firstPass (now (bundle .entry)))) (length (recordsOf (now (bundle .entry)))) ⌝ }
+{
+    let n = bundle.len();
+    let mut at = 0;
+    let mut i = 0;
+    while at < n {
+        let rest = &bundle[at..n];
+        let here = super::walk::first_step(rest);
+        match here {
+            Step::Unknown => {
+                return Judgement::Refused(2, i, 0);
+            }
+            Step::Short => {
+                return Judgement::Refused(3, i, 0);
+            }
+            Step::Whole(table, start, next) => {
+                let k = layout::broken_row(table, &rest[start..next]);
+                if k < layout::ROWS {
+                    let row = layout::row_at(k);
+                    return Judgement::Refused(4, i, row.field as usize);
+                }
+                at += next;
+                i += 1;
+            }
+        }
+    }
+    Judgement::Accepted(i)
+}
+
+// Each record beside the others: 5, then 6, then 7, before the next record.
+pub fn second_pass(bundle: &[u8]) -> Judgement
+    ensures { λ r. ⌜ r ≡ judged (firstFault (secondPass (recordsOf (now (bundle .entry))))) (length (recordsOf (now (bundle .entry)))) ⌝ }
+{
+    let n = bundle.len();
+    let transferor = super::keys::first_transferor(bundle);
+    let mut at = 0;
+    let mut i = 0;
+    let verdict = 'records: loop {
+        let rest = &bundle[at..n];
+        let here = super::walk::first_step(rest);
+        let Step::Whole(table, start, next) = here else {
+            break 'records Judgement::Accepted(i);
+        };
+        let r = &rest[start..next];
+        if !common::same_bytes(layout::field(r, 1, 4), transferor) {
+            break 'records Judgement::Refused(5, i, 0);
+        }
+        let mut p = 0;
+        let mut j = 0;
+        while j < i {
+            let before = &bundle[p..n];
+            let there = super::walk::first_step(before);
+            // every record before this one was whole, so that this is never reached
+            let Step::Whole(t, s, e) = there else {
+                break 'records Judgement::Accepted(j);
+            };
+            if super::keys::clashes(table, r, t, &before[s..e]) {
+                break 'records Judgement::Refused(6, i, j);
+            }
+            p += e;
+            j += 1;
+        }
+        let k = super::links::missing_link(bundle, table, r);
+        if k < super::links::LINKS {
+            let link = super::links::link_at(k);
+            break 'records Judgement::Refused(7, i, link.detail);
+        }
+        at += next;
+        i += 1;
+    };
+    verdict
+}
