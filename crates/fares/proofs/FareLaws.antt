@@ -1,0 +1,135 @@
+-- What each leg adds to the fare: the laws that the loop over the legs cites.
+-- Assumes nothing.
+use Prim.Native.Nat.{ℕ, _+_, _-_, _*_, _≤_, _<_}
+use mathlib.Core.Path.{_≡_, refl, sym, _∙_, ap}
+use mathlib.Core.Bool.{Bool, true, false, cond, not, _&&_}
+use mathlib.Core.List.{List, [], _∷_, _++_, map, append-assoc}
+use native.Mathlib.Nat.{mul-le-mul}
+use native.Mathlib.Omega.{arith}
+use lib.Dec.{leb, ltb}
+use lib.ListN.{length, getD, take, drop, replicate, length-take, length-map, List·getD-map}
+use lib.Seq.{take-all, getD-take}
+use borrow.Author.Tests.{lt-ltb, le-ltb, leb-true}
+use Rattle.common.specs.Lists.{sum, every}
+use Rattle.common.specs.Checks.{Finding, clean, fault, Check, check, firstFault, eachFrom}
+use Rattle.common.proofs.Tests.{both-true}
+use Rattle.common.proofs.Lists.{every-at}
+use Rattle.common.proofs.Checks.{orElse, fault-append, each-step, each-end}
+use Rattle.common.proofs.Sums.{sum-small, map-at}
+use Rattle.layout.specs.Dates.{isDay}
+use Rattle.bundle.specs.Records.{Rec, recordsOf}
+use Rattle.bundle.specs.Verdict.{checks, judged, verdictOf}
+use Rattle.bundle.specs.declared.Judgement.the-variants as verdict
+use Rattle.bundle.proofs.PassLaws.{is-fault, is-clean}
+use Rattle.fares.specs.Question.{between, legInLimits, noLeg, legsOf, limitsOf, inLimits}
+use Rattle.fares.specs.Reductions.{partBound}
+use Rattle.fares.specs.Legs.{legChecks, partBy, partOf, chosenBody, conditionsFor, answered}
+use Rattle.fares.specs.Fare.{partsOf, mostFare, priceChecks, fareChecks, refusal, quoted, priceOf, fareOf}
+use Rattle.fares.specs.declared.Leg.{Leg}
+use Rattle.fares.specs.declared.Question.{Question}
+use Rattle.fares.specs.declared.legs.Priced.the-variants.{Part, Refused}
+use Rattle.fares.proofs.LegLaws.{leg-small}
+
+-- what the limits say of the numbers that are computed with
+pub record Asked (q : Question) : Type 0 where
+  pub persons : q .persons ≤ 99
+  pub few : q .count ≤ 8
+  pub fares : (k : ℕ) → k < length (legsOf q) → getD (legsOf q) k noLeg .fare ≤ 999999
+
+pub asked : (q : Question) → inLimits q ≡ true → Asked q
+unfolding inLimits
+asked q e =
+    let t : (k : ℕ) → k < 6 → getD (limitsOf q) k true ≡ true = λ k l. every-at (λ b. b) (limitsOf q) e k true l in
+    let leg : (k : ℕ) → k < length (legsOf q) → legInLimits (getD (legsOf q) k noLeg) ≡ true =
+    λ k l. every-at legInLimits (legsOf q) (t 5 (omega arith)) k noLeg l in
+    record {
+      persons = leb-true (q .persons) 99 (both-true (leb 1 (q .persons)) (leb (q .persons) 99) (t 2 (omega arith)) .1);
+      few = leb-true (q .count) 8 (both-true (leb 1 (q .count)) (leb (q .count) 8) (t 4 (omega arith)) .1);
+      fares = λ k l.
+          let x = getD (legsOf q) k noLeg in
+          leb-true (x .fare) 999999 (both-true (between 1 9999 (x .railway)) (leb (x .fare) 999999) (leg k l) .1);
+    }
+
+-- an answer tells what was found
+pub is-refused : (f : Finding) (x n p d : ℕ) → answered f x ≡ Refused n p d → f ≡ fault n p d
+is-refused clean x n p d e = let z : _≡_ {A = ℕ} 0 1 = cc in absurd (omega arith)
+is-refused (fault a b c) x n p d e =
+    let i : a ≡ n = cc in
+    let j : b ≡ p = cc in
+    let k : c ≡ d = cc in
+    rw (i, j, k)
+
+pub is-part : (f : Finding) (x y : ℕ) → answered f x ≡ Part y → (f ≡ clean) × (x ≡ y)
+is-part clean x y e = (refl, cc)
+is-part (fault a b c) x y e = let z : _≡_ {A = ℕ} 0 1 = cc in absurd (omega arith)
+
+module _ (R : List Rec) (q : Question) where
+  pub limits-fail : inLimits q ≡ false → priceOf R q ≡ refusal 11 0 0
+  unfolding priceOf priceChecks firstFault
+  limits-fail e = rw e
+
+  lastCheck : List Check
+  lastCheck = check (ltb mostFare (sum (partsOf R q))) 16 0 0 ∷ []
+
+  -- what is found from leg k on
+  pub left : ℕ → Finding
+  left k = firstFault (eachFrom k (legChecks R q) (drop k (legsOf q)) ++ lastCheck)
+
+  pub left-start : inLimits q ≡ true → firstFault (priceChecks R q) ≡ left 0
+  unfolding priceChecks firstFault left lastCheck
+  left-start e = rw e
+
+  pub left-step : (k : ℕ) → k < length (legsOf q) → left k ≡ orElse (firstFault (legChecks R q k (getD (legsOf q) k noLeg))) (left (k + 1))
+  unfolding left
+  left-step k l =
+      fault-append (eachFrom k (legChecks R q) (drop k (legsOf q))) lastCheck
+      ∙ (rw (each-step (legChecks R q) (legsOf q) k noLeg l) (else-assoc (firstFault (legChecks R q k (getD (legsOf q) k noLeg))) (firstFault (eachFrom (k + 1) (legChecks R q) (drop (k + 1) (legsOf q)))) (firstFault lastCheck))
+      ∙ ap (orElse (firstFault (legChecks R q k (getD (legsOf q) k noLeg)))) (sym (fault-append (eachFrom (k + 1) (legChecks R q) (drop (k + 1) (legsOf q))) lastCheck)))
+    where
+      else-assoc : (a b c : Finding) → orElse (orElse a b) c ≡ orElse a (orElse b c)
+      else-assoc clean b c = refl
+      else-assoc (fault x y z) b c = refl
+
+  pub left-end : (k : ℕ) → length (legsOf q) ≤ k → left k ≡ cond (ltb mostFare (sum (partsOf R q))) (fault 16 0 0) clean
+  unfolding left lastCheck firstFault
+  left-end k l = rw (each-end (legChecks R q) (legsOf q) k l)
+
+  -- a leg is refused, or the fare is too high, or all is well
+  pub by-leg : (n p d : ℕ) → firstFault (priceChecks R q) ≡ fault n p d → priceOf R q ≡ refusal n p d
+  unfolding priceOf
+  by-leg n p d e = rw e
+
+  pub all-well : firstFault (priceChecks R q) ≡ clean → priceOf R q ≡ quoted clean (partsOf R q)
+  unfolding priceOf
+  all-well e = rw e
+
+  -- the parts are small
+  module _ (a : Asked q) where
+    pub part-small : (k : ℕ) → k < length (legsOf q) → partOf R q (getD (legsOf q) k noLeg) ≤ partBound
+    part-small k l =
+        let leg = getD (legsOf q) k noLeg in
+        leg-small R q leg (chosenBody R (conditionsFor R q leg)) (a .fares k l) (a .persons)
+
+    pub sum-of-parts : (k : ℕ) → k ≤ length (legsOf q) → sum (map (partOf R q) (take k (legsOf q))) ≤ k * partBound
+    sum-of-parts k l =
+        let xs = map (partOf R q) (take k (legsOf q)) in
+        let n : length xs ≡ k = rw (length-map, length-take) (omega arith) in
+        rw n at (sum-small xs partBound (λ j h. at-most j (omega (arith, n))))
+      where
+        at-most : (j : ℕ) → j < k → getD (map (partOf R q) (take k (legsOf q))) j 0 ≤ partBound
+        at-most j h =
+            rw (map-at (partOf R q) (take k (legsOf q)) j 0 noLeg (rw length-take (omega arith)), getD-take k (legsOf q) j noLeg h) (part-small j (omega arith))
+
+-- the verdict comes first
+module _ (s : List ℕ) (q : Question) where
+  pub verdict-first : (n p d : ℕ) → verdictOf s ≡ verdict.Refused n p d → fareOf s q ≡ refusal n p d
+  unfolding fareOf fareChecks verdictOf
+  verdict-first n p d e =
+      let f = is-fault (firstFault (checks s)) (length (recordsOf s)) n p d e in
+      rw (fault-append (checks s) (priceChecks (recordsOf s) q), f)
+
+  pub then-the-price : (n : ℕ) → verdictOf s ≡ verdict.Accepted n → fareOf s q ≡ priceOf (recordsOf s) q
+  unfolding fareOf fareChecks verdictOf priceOf
+  then-the-price n e =
+      let f = is-clean (firstFault (checks s)) (length (recordsOf s)) n e .0 in
+      rw (fault-append (checks s) (priceChecks (recordsOf s) q), f)

@@ -1,0 +1,6 @@
+pub mod Fit
+pub mod RoundLaws
+pub mod StepLaws
+pub mod LegLaws
+pub mod FareLaws
+pub mod Meaning

@@ -1,0 +1,34 @@
+-- `fares::legs::flag_at` meets its contract: the code's table of flags is the definition's, which antt computes.
+-- Assumes nothing.
+use mathlib.Core.Path.{ap, sym}
+use native.Mathlib.Omega.{arith}
+use lib.ListN.{List·getD-map, List·getD-eq-default}
+use Rattle.fares.specs.declared.legs.Entry.{Entry}
+use Rattle.fares.specs.declared.legs.Flag.{Flag}
+use Rattle.fares.specs.Legs.{unreadFlags, noFlag}
+use borrow.Author.Needs.{needs}
+use Rattle.fares.proofs.legs.flag_at.Statement.{statement}
+use Rattle.fares.proofs.legs.flag_at.Tie as tie
+
+abbrev asFlag : Entry → Flag
+asFlag e = record { field = e .0; position = e .1 }
+
+abbrev asEntry : Flag → Entry
+asEntry f = (f .field, f .position)
+
+returns : tie.Need-returns
+unfolding unreadFlags
+returns c = sym (List·getD-eq-default unreadFlags noFlag {n = c .before .args .k} (omega arith))
+
+mul-e : tie.Need-mul-e
+mul-e c = search needs
+
+array-copy-out-e : tie.Need-array-copy-out-e
+array-copy-out-e c = search needs
+
+returns-2 : tie.Need-returns-2
+unfolding unreadFlags
+returns-2 c = ap asFlag (List·getD-map asEntry unreadFlags (c .before .before .args .k) noFlag)
+
+pub flag-at-spec : {M : Type 1} → statement M
+flag-at-spec = tie.close (tie.spec returns mul-e array-copy-out-e returns-2)

@@ -1,0 +1,67 @@
+-- `fares::legs::price_leg` meets its contract.
+-- Assumes nothing.
+use mathlib.Core.Path.{sym, _∙_, ap}
+use Rattle.fares.proofs.LegLaws.{no-conditions, off-day, by-conditions}
+use Rattle.bundle.specs.Records.{recordsOf}
+use Rattle.bundle.proofs.ChoiceLaws.{chosen-at, is-nothing, is-off-day}
+use Rattle.layout.specs.Tables.{CO}
+use Rattle.fares.specs.Legs.{conditionsFor, answerBy}
+use borrow.Author.Needs.{needs}
+use Rattle.fares.proofs.legs.price_leg.Statement.{statement}
+use Rattle.fares.proofs.legs.price_leg.Tie as tie
+
+choose-requires : tie.Need-choose-requires
+choose-requires c κs = search needs
+
+enum-told : tie.Need-enum-told
+enum-told c = search needs
+
+enum-told-2 : tie.Need-enum-told-2
+enum-told-2 c = search needs
+
+enum-known-chosen : tie.Need-enum-known-chosen
+enum-known-chosen c = search needs
+
+body-at-requires : tie.Need-body-at-requires
+body-at-requires c κs = search needs
+
+price-by-requires : tie.Need-price-by-requires
+price-by-requires c κs = search needs
+
+returns : tie.Need-returns
+returns c =
+    let h = c .before .before in
+    let a = h .before .before .args in
+    let R = recordsOf (a .bundle .now) in
+    sym (no-conditions R (a .q) (a .k) (a .leg) (is-nothing (a .bundle .now) (conditionsFor R (a .q) (a .leg)) (sym (h .choose .ensures) ∙ c .enum-told .given .1)))
+
+returns-2 : tie.Need-returns-2
+returns-2 c =
+    let h = c .before .before in
+    let a = h .before .before .args in
+    let R = recordsOf (a .bundle .now) in
+    sym (off-day R (a .q) (a .k) (a .leg) (is-off-day (a .bundle .now) (conditionsFor R (a .q) (a .leg)) (sym (h .choose .ensures) ∙ c .enum-told2 .given .1)))
+
+returns-3 : tie.Need-returns-3
+returns-3 c =
+    let k = c .before .before in
+    let h = k .before .before .before in
+    let a = h .before .before .args in
+    let R = recordsOf (a .bundle .now) in
+    let e = chosen-at (a .bundle .now) CO (a .q .offer) (a .leg .railway) 0 (a .q .day) _ (sym (h .choose .ensures) ∙ k .before .chosen .given .1) in
+    c .price-by .ensures
+    ∙ (ap (answerBy R (a .q) (a .k) (a .leg)) (c .before .body-at .ensures ∙ e .2) ∙ sym (by-conditions R (a .q) (a .k) (a .leg) (e .0) (e .1)))
+
+pub price-leg-spec : {M : Type 1} → statement M
+price-leg-spec =
+    tie.close
+    (tie.spec
+    choose-requires
+    enum-told
+    enum-told-2
+    enum-known-chosen
+    body-at-requires
+    price-by-requires
+    returns
+    returns-2
+    returns-3)

@@ -1,0 +1,52 @@
+-- The fare of a ticket: the checks in their order, the parts and their sum (document 01, 'Pricing' and 'The sales book', its last line).
+-- Assumes nothing.
+use Prim.Native.Nat.{ℕ, _-_}
+use mathlib.Core.Bool.{Bool, not}
+use mathlib.Core.List.{List, [], _∷_, _++_, map}
+use lib.Dec.{ltb}
+use lib.ListN.{replicate}
+use Rattle.common.specs.Lists.{sum}
+use Rattle.common.specs.Checks.{Finding, clean, fault, Check, check, firstFault, eachFrom}
+use Rattle.bundle.specs.Records.{Rec, recordsOf}
+use Rattle.bundle.specs.Verdict.{checks}
+use Rattle.fares.specs.Question.{legsOf, inLimits}
+use Rattle.fares.specs.Legs.{legChecks, partOf}
+use Rattle.fares.specs.declared.Question.{Question}
+use Rattle.fares.specs.declared.Quote.{Quote}
+use Rattle.fares.specs.declared.Outcome.the-variants.{Priced, Refused}
+
+-- the parts of the legs, zeros after them to eight
+unfoldable pub partsOf : List Rec → Question → List ℕ
+partsOf R q = map (partOf R q) (legsOf q) ++ replicate (8 - q .count) 0
+
+-- 16: fare above 4,294,967,295
+abbrev pub mostFare : ℕ
+mostFare = 4294967295
+
+-- 11, then the legs from the first, each for 12, 13, 14, 15, last 16
+unfoldable pub priceChecks : List Rec → Question → List Check
+priceChecks R q =
+    check (not (inLimits q)) 11 0 0 ∷
+    (eachFrom 0 (legChecks R q) (legsOf q) ++ (check (ltb mostFare (sum (partsOf R q))) 16 0 0 ∷ []))
+
+-- "A fare may also be asked without a book: verdict, 11, 12 to 15, 16."
+unfoldable pub fareChecks : List ℕ → Question → List Check
+fareChecks s q = checks s ++ priceChecks (recordsOf s) q
+
+-- "Every refusal answers with all amounts zero"
+abbrev pub refusal : ℕ → ℕ → ℕ → Quote
+refusal k p d = record { outcome = Refused k p d; fare = 0; parts = replicate 8 0 }
+
+abbrev pub priced : List ℕ → Quote
+priced parts = record { outcome = Priced; fare = sum parts; parts = parts }
+
+abbrev pub quoted : Finding → List ℕ → Quote
+quoted clean parts = priced parts
+quoted (fault k p d) parts = refusal k p d
+
+-- the fare from records, and THE FARE from a bundle
+unfoldable pub priceOf : List Rec → Question → Quote
+priceOf R q = quoted (firstFault (priceChecks R q)) (partsOf R q)
+
+unfoldable pub fareOf : List ℕ → Question → Quote
+fareOf s q = quoted (firstFault (fareChecks s q)) (partsOf (recordsOf s) q)

@@ -1,0 +1,5 @@
+pub mod Question
+pub mod Rounding
+pub mod Reductions
+pub mod Legs
+pub mod Fare

@@ -1,0 +1,97 @@
+// The fare of a ticket, leg by leg.
+ghost use mathlib.Core.Path.{_≡_};
+ghost use Rattle.bundle.specs.Records.{recordsOf};
+ghost use Rattle.fares.specs.Fare.{refusal, priceOf, fareOf};
+
+mod legs;
+pub mod limits;
+mod reductions;
+mod rounding;
+
+// A leg: its railway, and the plain fare per person in cents.
+pub struct Leg {
+    pub railway: u32,
+    pub fare: u32,
+}
+
+// What is asked: `day` is a number YYYYMMDD, `card` 0 is none, and legs from `count` on are not looked at.
+pub struct Question {
+    pub offer: u32,
+    pub day: u32,
+    pub persons: u32,
+    pub card: u32,
+    pub count: u32,
+    pub legs: [Leg; 8],
+}
+
+// Whether a fare was found, or why not: number, place and detail.
+pub enum Outcome {
+    Priced,
+    Refused(u8, usize, usize),
+}
+
+// The parts of the legs in cents, zeros after them, and the fare as their sum; all zero where it is refused.
+pub struct Quote {
+    pub outcome: Outcome,
+    pub fare: u64,
+    pub parts: [u32; 8],
+}
+
+fn refused(number: u8, place: usize, detail: usize) -> Quote
+    ensures { λ r. ⌜ r ≡ refusal number place detail ⌝ }
+{
+    Quote {
+        outcome: Outcome::Refused(number, place, detail),
+        fare: 0,
+        parts: [0; 8],
+    }
+}
+
+const MOST_FARE: u64 = 4294967295;
+
+// The fare from a bundle that was accepted.
+pub fn price(bundle: &[u8], q: Question) -> Quote
+    ensures { λ r. ⌜ r ≡ priceOf (recordsOf (now (bundle .entry))) q ⌝ }
+{
+    if !limits::in_limits(q) {
+        return refused(11, 0, 0);
+    }
+    let legs = q.legs;
+    let count = q.count as usize;
+    let mut parts = [0u32; 8];
+    let mut fare: u64 = 0;
+    let mut k = 0;
+    while k < count {
+        let leg = legs[k];
+        let answer = legs::price_leg(bundle, q, k, leg);
+        match answer {
+            legs::Priced::Refused(number, place, detail) => {
+                return refused(number, place, detail);
+            }
+            legs::Priced::Part(part) => {
+                parts[k] = part;
+                fare += part as u64;
+                k += 1;
+            }
+        }
+    }
+    if MOST_FARE < fare {
+        return refused(16, 0, 0);
+    }
+    Quote {
+        outcome: Outcome::Priced,
+        fare,
+        parts,
+    }
+}
+
+// The fare of a ticket: the bundle's verdict, the question's limits, the legs from the first.
+pub fn fare(bundle: &[u8], q: Question) -> Quote
+    ensures { λ r. ⌜ r ≡ fareOf (now (bundle .entry)) q ⌝ }
+{
+    let judged = bundle::verdict(bundle);
+    match judged {
+        bundle::Judgement::Refused(number, place, detail) => refused(number, place, detail),
+        bundle::Judgement::Accepted(_) => price(bundle, q),
+    }
+}
