@@ -1,0 +1,12 @@
+pub mod Blocks
+pub mod EntryLaws
+pub mod QuestionLaws
+pub mod BookingLaws
+pub mod SoundLaws
+pub mod SumLaws
+pub mod Kept
+pub mod SaleLaws
+pub mod Owed
+pub mod JudgeLaws
+pub mod Resent
+pub mod Totals

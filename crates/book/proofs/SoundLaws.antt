@@ -1,0 +1,60 @@
+-- What makes a book sound, over plain values: its entries' numbers, and a question that is sound.
+-- Assumes nothing.
+use Prim.Native.Nat.{ℕ, _+_, _-_, _≤_, _<_}
+use mathlib.Core.Path.{_≡_, refl, sym, _∙_}
+use mathlib.Core.Bool.{true, false}
+use mathlib.Core.List.{List}
+use native.Mathlib.Omega.{arith}
+use lib.Dec.{ltb}
+use lib.ListN.{getD, take, drop}
+use lib.Seq.{getD-take, getD-drop, drop-drop}
+use borrow.Author.Tests.{eq-eqb, ne-eqb}
+use Rattle.common.specs.Least.{least}
+use Rattle.common.specs.Lists.{same, upTo}
+use Rattle.common.proofs.Least.{hit, alike}
+use Rattle.common.proofs.Lists.{upto-length, upto-at}
+use Rattle.common.proofs.Parts.{part-rest}
+use Rattle.common.proofs.Tests.{both-true}
+use Rattle.fares.specs.Question.{inLimits}
+use Rattle.fares.proofs.FareLaws.{asked}
+use Rattle.book.specs.Words.{Entry, noEntry, questionWidth, questionOf, questionWords}
+use Rattle.book.specs.Sound.{askedSound, sameNumber, repeats, numbersDiffer}
+
+-- the leg count of a sound question
+pub few-legs : (ws : List ℕ) → askedSound ws ≡ true → questionOf ws .count ≤ 8
+few-legs ws e = asked (questionOf ws) (both-true (inLimits (questionOf ws)) (same ws (questionWords (questionOf ws))) e .0) .few
+
+module _ (f : ℕ → Entry) (n : ℕ) where
+  -- entry i repeats an earlier number
+  pub repeats-at : (i : ℕ) → i < n → repeats (upTo f n) i ≡ ltb (least (λ j. sameNumber (f i .till) (f i .sequence) (f j)) i) i
+  repeats-at i l =
+      let e : least (λ j. sameNumber (f i .till) (f i .sequence) (getD (upTo f n) j noEntry)) i ≡ least (λ j. sameNumber (f i .till) (f i .sequence) (f j)) i =
+      alike _ _ i (λ j h. rw (upto-at f n j noEntry (omega arith))) in
+      rw (upto-at f n i noEntry l, e)
+
+  -- one that does, after none, and none at all
+  pub number-repeats : (i : ℕ) → i < n → least (repeats (upTo f n)) i ≡ i → repeats (upTo f n) i ≡ true → numbersDiffer (upTo f n) ≡ false
+  unfolding numbersDiffer
+  number-repeats i l e h =
+      let w = upto-length f n in
+      let p : least (repeats (upTo f n)) n ≡ i = hit (repeats (upTo f n)) i n e h l in
+      rw (w, p) (ne-eqb i n (λ q. omega arith))
+
+  pub none-repeats : least (repeats (upTo f n)) n ≡ n → numbersDiffer (upTo f n) ≡ true
+  unfolding numbersDiffer
+  none-repeats e = rw (upto-length f n, e) (eq-eqb n n refl)
+
+-- the words of an entry: its leg count, and the parts from there on
+pub count-word : (w : List ℕ) → questionOf (take questionWidth (drop 2 w)) .count ≡ getD w 8 0
+unfolding questionOf
+count-word w = getD-take questionWidth (drop 2 w) 6 0 (omega arith) ∙ getD-drop 2 w 6 0
+
+pub unused-parts : (w : List ℕ) → getD w 8 0 ≤ 8
+    → take (61 - (53 + getD w 8 0)) (drop (53 + getD w 8 0) w) ≡ drop (questionOf (take questionWidth (drop 2 w)) .count) (take 8 (drop 53 w))
+unused-parts w h = rw (count-word w) (go (getD w 8 0) h)
+  where
+    go : (n : ℕ) → n ≤ 8 → take (61 - (53 + n)) (drop (53 + n) w) ≡ drop n (take 8 (drop 53 w))
+    go n l =
+        let m : 61 - (53 + n) ≡ 8 - n = omega arith in
+        let e : n + (8 - n) ≡ 8 = omega arith in
+        rw (m, ← drop-drop n 53 w) (sym (rw e at (part-rest n (8 - n) (drop 53 w))))

@@ -1,0 +1,116 @@
+-- What an entry and a book come to: the words that are added up, and that each sum fits.
+-- Assumes nothing.
+use Prim.Native.Nat.{ℕ, _+_, _-_, _*_, _≤_, _<_}
+use mathlib.Core.Path.{_≡_, refl, sym, _∙_, ap}
+use mathlib.Core.Bool.{Bool, true, false, cond}
+use mathlib.Core.List.{List, [], _∷_, map, map-append}
+use native.Mathlib.Numerals.{add-one}
+use native.Mathlib.Omega.{arith}
+use lib.Dec.{eqb, leb}
+use lib.ListN.{length, getD, take, drop, length-take, length-drop}
+use lib.Seq.{getD-take, getD-drop}
+use borrow.Author.Tests.{eq-eqb, ne-eqb, eqb-true, leb-true}
+use Rattle.common.specs.Lists.{sum, upTo}
+use Rattle.common.proofs.Lists.{every-at}
+use Rattle.common.proofs.Sums.{sum-append, sum-up-small}
+use Rattle.book.specs.Words.{Entry, width, questionWidth, capacity, bookLength, countOf, entryOf, entryAt, entries}
+use Rattle.book.specs.Sound.{soundWords}
+use Rattle.book.specs.Balances.{legPart, ofRailway, ofAll, liveAmount, balanceOf}
+use Rattle.book.proofs.Blocks.{word-at}
+
+-- the largest word
+abbrev pub most : ℕ
+most = 4294967295
+
+-- A WORD OF AN ENTRY: part j, and the railway of leg j
+pub part-at : (b : List ℕ) (j : ℕ) → j < 8 → getD (take 8 (drop 53 b)) j 0 ≡ getD b (53 + j) 0
+part-at b j l = getD-take 8 (drop 53 b) j 0 l ∙ getD-drop 53 b j 0
+
+pub railway-at : (b : List ℕ) (j : ℕ) → j < 8 → getD (take questionWidth (drop 2 b)) (19 + 4 * j) 0 ≡ getD b (21 + 4 * j) 0
+railway-at b j l =
+    let e : 2 + (19 + 4 * j) ≡ 21 + 4 * j = omega arith in
+    getD-take questionWidth (drop 2 b) (19 + 4 * j) 0 (omega arith) ∙ (getD-drop 2 b (19 + 4 * j) 0 ∙ ap (λ k. getD b k 0) e)
+
+-- what leg j of an entry comes to for a railway: its part if the leg is the railway's, and else nothing
+module _ (b : List ℕ) (railway j : ℕ) (l : j < 8) where
+  pub own-leg : getD b (21 + 4 * j) 0 ≡ railway → legPart railway (entryOf b .asked) (entryOf b .parts) j ≡ getD b (53 + j) 0
+  own-leg e = rw (railway-at b j l, eq-eqb _ _ e) (part-at b j l)
+
+  pub other-leg : (getD b (21 + 4 * j) 0 ≡ railway → ⊥) → legPart railway (entryOf b .asked) (entryOf b .parts) j ≡ 0
+  other-leg h = rw (railway-at b j l, ne-eqb _ _ h)
+
+-- AN ENTRY'S SHARE of a book is small, since each word is
+cond-small : (t : Bool) (x m : ℕ) → x ≤ m → cond t x 0 ≤ m
+cond-small true x m l = l
+cond-small false x m l = omega arith
+
+abbrev pub mostOf : ℕ
+mostOf = 8 * most
+
+-- what counts of an entry of the book is at most eight words
+abbrev pub Small : List ℕ → (List ℕ → List ℕ → ℕ) → Type 0
+Small w f = (i : ℕ) → f (entryAt w i .asked) (entryAt w i .parts) ≤ mostOf
+
+module _ (w : List ℕ) (words-small : (k : ℕ) → getD w k 0 ≤ most) where
+  part-small : (i j : ℕ) → j < 8 → getD (entryAt w i .parts) j 0 ≤ most
+  part-small i j l =
+      rw (part-at (take width (drop (1 + i * width) w)) j l, word-at w i (53 + j) (omega arith)) (words-small (1 + i * width + (53 + j)))
+
+  pub all-small : Small w ofAll
+  all-small i = sum-up-small (λ j. getD (entryAt w i .parts) j 0) most 8 (part-small i)
+
+  pub railway-small : (railway : ℕ) → Small w (ofRailway railway)
+  railway-small railway i =
+      sum-up-small (legPart railway (entryAt w i .asked) (entryAt w i .parts)) most 8
+      (λ j l. cond-small (eqb (getD (entryAt w i .asked) (19 + 4 * j) 0) railway) (getD (entryAt w i .parts) j 0) most (part-small i j l))
+
+-- A BALANCE: nothing, one entry more
+module _ (f : List ℕ → List ℕ → ℕ) where
+  pub balance-none : (g : ℕ → Entry) → balanceOf f (upTo g 0) ≡ 0
+  unfolding balanceOf upTo sum
+  balance-none g = refl
+
+  pub balance-more : (g : ℕ → Entry) (i : ℕ) → balanceOf f (upTo g (i + 1)) ≡ balanceOf f (upTo g i) + liveAmount f (g i)
+  unfolding balanceOf upTo sum
+  balance-more g i =
+      rw (add-one, map-append (liveAmount f) (upTo g i) (g i ∷ [])) (omega (arith, sum-append (map (liveAmount f) (upTo g i)) (liveAmount f (g i) ∷ [])))
+
+  pub live-small : (w : List ℕ) → Small w f → (i : ℕ) → liveAmount f (entryAt w i) ≤ mostOf
+  live-small w s i = cond-small (eqb (entryAt w i .mark) 0) (f (entryAt w i .asked) (entryAt w i .parts)) mostOf (s i)
+
+-- WHAT A SOUND BOOK has: its length, and few enough entries
+sound-at : (w : List ℕ) → soundWords w ≡ true → (eqb (length w) bookLength ≡ true) × (leb (countOf w) capacity ≡ true)
+unfolding soundWords
+sound-at w e = (every-at (λ b. b) _ e 0 true (omega arith), every-at (λ b. b) _ e 1 true (omega arith))
+
+pub sound-length : (w : List ℕ) → soundWords w ≡ true → length w ≡ bookLength
+sound-length w e = eqb-true _ _ (sound-at w e .0)
+
+pub sound-count : (w : List ℕ) → soundWords w ≡ true → countOf w ≤ capacity
+sound-count w e = leb-true _ _ (sound-at w e .1)
+
+-- the part of the book that is entry i
+pub block : (w : List ℕ) (i : ℕ) → take (1 + i * width + width - (1 + i * width)) (drop (1 + i * width) w) ≡ take width (drop (1 + i * width) w)
+block w i = let e : 1 + i * width + width - (1 + i * width) ≡ width = omega arith in rw e
+
+pub block-length : (w : List ℕ) (i : ℕ) → 1 + i * width + width ≤ length w → length (take (1 + i * width + width - (1 + i * width)) (drop (1 + i * width) w)) ≡ width
+block-length w i l = rw (block w i, length-take, length-drop) (omega arith)
+
+-- THE SUM over the entries before i, and its turn: what entry i comes to is added
+abbrev pub Summed : (List ℕ → List ℕ → ℕ) → List ℕ → ℕ → ℕ → Type 0
+Summed f w i total = (total ≤ i * mostOf) × (total ≡ balanceOf f (upTo (entryAt w) i))
+
+module _ (f : List ℕ → List ℕ → ℕ) (w : List ℕ) where
+  pub sum-start : Summed f w 0 0
+  sum-start = (omega arith, sym (balance-none f (entryAt w)))
+
+  pub sum-turn : Small w f → (i total r : ℕ) → Summed f w i total
+      → r ≡ liveAmount f (entryOf (take (1 + i * width + width - (1 + i * width)) (drop (1 + i * width) w)))
+      → Summed f w (i + 1) (total + r)
+  sum-turn s i total r t e =
+      let d : r ≡ liveAmount f (entryAt w i) = e ∙ ap (λ b. liveAmount f (entryOf b)) (block w i) in
+      (omega (arith, live-small f w s i), omega (arith, balance-more f (entryAt w) i))
+
+  pub sum-end : (i total : ℕ) → i ≡ countOf w → Summed f w i total → total ≡ balanceOf f (entries w)
+  unfolding entries
+  sum-end i total e t = t .1 ∙ ap (λ n. balanceOf f (upTo (entryAt w) n)) e

@@ -1,0 +1,34 @@
+-- `book::balance` meets its contract.
+-- Assumes nothing.
+use Rattle.common.specs.Checks.{firstFault}
+use Rattle.common.proofs.Tests.{fails, holds}
+use Rattle.book.specs.Balances.{balanceAnswer}
+use borrow.Author.Needs.{needs}
+use Rattle.book.proofs.balance.Statement.{statement}
+use Rattle.book.proofs.balance.Tie as tie
+
+is-sound-requires : tie.Need-is-sound-requires
+is-sound-requires c κs = search needs
+
+returns : tie.Need-returns
+unfolding balanceAnswer firstFault
+returns c = rw (fails (c .before .is-sound .result) (c .if1 .taken) (c .before .is-sound .ensures))
+
+is-railway-requires : tie.Need-is-railway-requires
+is-railway-requires c κs = search needs
+
+returns-2 : tie.Need-returns-2
+unfolding balanceAnswer firstFault
+returns-2 c = let e = c .before .before in rw (holds (e .before .is-sound .result) (e .if1 .left) (e .before .is-sound .ensures), fails (c .before .is-railway .result) (c .if2 .taken) (c .before .is-railway .ensures))
+
+owed-to-requires : tie.Need-owed-to-requires
+owed-to-requires c κs = let e = c .before .before in holds (e .before .is-sound .result) (e .if1 .left) (e .before .is-sound .ensures)
+
+returns-3 : tie.Need-returns-3
+unfolding balanceAnswer firstFault
+returns-3 c = let r = c .before in let e = r .before .before in rw (holds (e .before .is-sound .result) (e .if1 .left) (e .before .is-sound .ensures), holds (r .before .is-railway .result) (r .if2 .left) (r .before .is-railway .ensures), c .owed-to .ensures)
+
+pub balance-spec : {M : Type 1} → statement M
+balance-spec =
+    tie.close
+    (tie.spec is-sound-requires returns is-railway-requires returns-2 owed-to-requires returns-3)

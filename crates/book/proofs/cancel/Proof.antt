@@ -1,0 +1,66 @@
+-- `book::cancel` meets its contract: it writes exactly if a live sale is cancelled.
+-- Assumes nothing.
+use Prim.Native.Nat.{ℕ, _≤_, _<_}
+use mathlib.Core.Path.{_≡_, sym, _∙_, ap}
+use mathlib.Core.Bool.{true, _&&_}
+use native.Mathlib.Omega.{arith}
+use lib.Dec.{leb}
+use borrow.Author.Tests.{leb-true}
+use Rattle.common.proofs.Tests.{both-true}
+use Rattle.book.specs.Sound.{numberInLimits}
+use Rattle.book.specs.declared.Receipt.{Receipt}
+use Rattle.book.proofs.EntryLaws.{is-sound}
+use Rattle.book.specs.Sales.{cancelAnswer}
+use Rattle.book.specs.declared.Outcome.the-variants.{Cancelled}
+use Rattle.book.proofs.JudgeLaws.{cancelled-sound, cancelled-writes, not-cancelled-stays, fits-word, other-than-cancelled}
+use borrow.Author.Needs.{needs}
+use Rattle.book.proofs.cancel.Statement.{statement}
+use Rattle.book.proofs.cancel.Tie as tie
+
+-- a live sale is cancelled
+cancelled : (c : tie.After-enum-told) → let a = c .before .before .before .before .before .args in
+    cancelAnswer (a .book .now) (a .till) (a .sequence) .outcome ≡ Cancelled
+cancelled c = ap (λ (r : Receipt). r .outcome) (sym (c .before .before .judge-cancel .ensures)) ∙ c .enum-told .given .1
+
+judge-cancel-requires : tie.Need-judge-cancel-requires
+judge-cancel-requires c κs = search needs
+
+enum-told : tie.Need-enum-told
+enum-told c = search needs
+
+cast-set-mark : tie.Need-cast-set-mark
+cast-set-mark c =
+    let a = c .before .before .before .before .before .before .args in
+    omega (arith, fits-word (a .till) (a .sequence) (cancelled-sound (a .book .now) (a .till) (a .sequence) (cancelled (c .before)) .1))
+
+set-mark-requires : tie.Need-set-mark-requires
+set-mark-requires c κs = let k = cancelled-sound _ _ _ (cancelled (c .before)) in let s = is-sound _ (k .0) in (s .long, s .few, k .2)
+
+same-length : tie.Need-same-length
+same-length c = search needs
+
+returns : tie.Need-returns
+returns c =
+    let k = c .before .before .before .before in
+    (k .before .before .judge-cancel .ensures, c .before .before .set-mark .ensures ∙ sym (cancelled-writes _ _ _ (cancelled k)))
+
+same-length-2 : tie.Need-same-length-2
+same-length-2 c = search needs
+
+returns-2 : tie.Need-returns-2
+returns-2 c =
+    let j = c .before in
+    (j .judge-cancel .ensures, sym (not-cancelled-stays _ _ _ (λ e. other-than-cancelled (j .judge-cancel .result .outcome) (c .match .keys2) (ap (λ (r : Receipt). r .outcome) (j .judge-cancel .ensures) ∙ e))))
+
+pub cancel-spec : {M : Type 1} → statement M
+cancel-spec =
+    tie.close
+    (tie.spec
+    judge-cancel-requires
+    enum-told
+    cast-set-mark
+    set-mark-requires
+    same-length
+    returns
+    same-length-2
+    returns-2)

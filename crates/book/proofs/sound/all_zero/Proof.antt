@@ -1,0 +1,57 @@
+-- `book::sound::all_zero` meets its contract. The loop's invariant: each word passed is zero, so that what is left decides.
+-- Assumes nothing.
+use Prim.Native.Nat.{_≤_, _-_}
+use mathlib.Core.Path.{_≡_, refl, sym, _∙_}
+use native.Mathlib.Omega.{arith}
+use lib.ListN.{length, drop}
+use borrow.Author.Tests.{eq-eqb, ne-eqb}
+use Rattle.common.specs.Lists.{every}
+use Rattle.common.proofs.Lists.{every-step, every-end}
+use Rattle.book.specs.Sound.{isZero}
+use Rattle.book.proofs.sound.all_zero.Statement.{statement}
+use Rattle.book.proofs.sound.all_zero.Tie as tie
+
+abbrev Inv-loop : tie.InvT-loop
+Inv-loop words k₀ k = (k ≤ length words) × (every isZero words ≡ every isZero (drop k words))
+
+abbrev μ-loop : tie.MeasureT-loop
+μ-loop words k₀ k = length words - k
+
+loop-holds : tie.Need-loop-holds Inv-loop μ-loop
+loop-holds c = (omega arith, refl)
+
+mul-if1 : tie.Need-mul-if1 Inv-loop μ-loop
+mul-if1 c = omega arith
+
+shared-slice-read-if1 : tie.Need-shared-slice-read-if1 Inv-loop μ-loop
+shared-slice-read-if1 c = omega arith
+
+returns : tie.Need-returns Inv-loop μ-loop
+returns c = let l = c .before .before .before in sym (l .loop .inv .1 ∙ (every-step isZero _ _ 0 (c .before .before .loop-test .taken) ∙ rw (ne-eqb _ _ (c .if1 .taken))))
+
+add-k : tie.Need-add-k Inv-loop μ-loop
+add-k c = omega arith
+
+loop-less : tie.Need-loop-less Inv-loop μ-loop
+loop-less c = omega arith
+
+loop-again : tie.Need-loop-again Inv-loop μ-loop
+loop-again c = let l = c .before .before .before in (omega arith, l .loop .inv .1 ∙ (every-step isZero _ _ 0 (c .before .before .loop-test .taken) ∙ rw (eq-eqb _ _ (c .if1 .left))))
+
+returns-2 : tie.Need-returns-2 Inv-loop μ-loop
+returns-2 c = sym (c .before .loop .inv .1 ∙ every-end isZero _ _ (c .loop-test .left))
+
+pub all-zero-spec : {M : Type 1} → statement M
+all-zero-spec =
+    tie.close
+    (tie.spec
+    Inv-loop
+    μ-loop
+    loop-holds
+    mul-if1
+    shared-slice-read-if1
+    returns
+    add-k
+    loop-less
+    loop-again
+    returns-2)

@@ -1,0 +1,115 @@
+-- `book::sums::owed_to` meets its contract. The loop's invariant: the sum is the balance of the entries before i, each of them small.
+-- Assumes nothing.
+use Prim.Native.Nat.{ℕ, _+_, _-_, _≤_}
+use mathlib.Core.Path.{_≡_}
+use native.Mathlib.Omega.{arith}
+use lib.ListN.{length, getD}
+use borrow.Author.Needs.{needs}
+use Rattle.book.specs.Words.{bookLength, capacity, countOf}
+use Rattle.book.specs.Balances.{ofRailway}
+use Rattle.book.proofs.SumLaws.{most, railway-small, sound-length, sound-count, block-length, Summed, sum-start, sum-turn, sum-end}
+use Rattle.book.proofs.sums.owed_to.Statement.{statement}
+use Rattle.book.proofs.sums.owed_to.Tie as tie
+
+abbrev Inv-loop : tie.InvT-loop
+Inv-loop book railway count total₀ i₀ total i = (i ≤ count) × Summed (ofRailway railway) book i total
+
+abbrev μ-loop : tie.MeasureT-loop
+μ-loop book railway count total₀ i₀ total i = count - i
+
+long : (c : tie.Start Inv-loop μ-loop) → length (c .args .book .now) ≡ bookLength
+long c = sound-length (c .args .book .now) (c .pre)
+
+-- at the loop: few entries, and each word of the book fits 32 bits
+few : (l : tie.At-loop Inv-loop μ-loop) → countOf (l .before .before .before .args .book .now) ≤ capacity
+few l = sound-count (l .before .before .before .args .book .now) (l .before .before .before .pre)
+
+small : (l : tie.At-loop Inv-loop μ-loop) (k : ℕ) → getD (l .before .before .before .args .book .now) k 0 ≤ most
+small l k = omega (arith, l .before .before .shared-slice-known .given k)
+
+turned : (c : tie.After-entry-owed-to Inv-loop μ-loop) → let l = c .before .before .before in
+    Summed (ofRailway (l .before .before .before .args .railway)) (l .before .before .before .args .book .now) (l .loop .i + 1) (l .loop .sum + c .entry-owed-to .result)
+turned c =
+    let l = c .before .before .before in
+    let a = l .before .before .before .args in
+    let w = a .book .now in
+    sum-turn (ofRailway (a .railway)) w (railway-small w (small l) (a .railway)) (l .loop .i) (l .loop .sum) (c .entry-owed-to .result) (l .loop .inv .1) (c .entry-owed-to .ensures)
+
+shared-slice-read-count : tie.Need-shared-slice-read-count Inv-loop μ-loop
+shared-slice-read-count c = omega (arith, long (c .before .before))
+
+cast-count : tie.Need-cast-count Inv-loop μ-loop
+cast-count c = omega (arith, c .before .shared-slice-known .given 0)
+
+loop-holds : tie.Need-loop-holds Inv-loop μ-loop
+loop-holds c = (omega arith, sum-start (ofRailway (c .before .before .args .railway)) (c .before .before .args .book .now))
+
+mul-at : tie.Need-mul-at Inv-loop μ-loop
+mul-at c = omega (arith, few (c .before))
+
+add-at : tie.Need-add-at Inv-loop μ-loop
+add-at c = omega (arith, few (c .before))
+
+add-end : tie.Need-add-end Inv-loop μ-loop
+add-end c = omega (arith, few (c .before))
+
+mul-entry-owed-to : tie.Need-mul-entry-owed-to Inv-loop μ-loop
+mul-entry-owed-to c = omega (arith, few (c .before))
+
+sub-entry-owed-to : tie.Need-sub-entry-owed-to Inv-loop μ-loop
+sub-entry-owed-to c = omega arith
+
+part-entry-owed-to-start : tie.Need-part-entry-owed-to-start Inv-loop μ-loop
+part-entry-owed-to-start c = search needs
+
+part-entry-owed-to-end : tie.Need-part-entry-owed-to-end Inv-loop μ-loop
+part-entry-owed-to-end c =
+    let n = few (c .before) in
+    let m = long (c .before .before .before .before) in
+    search needs
+
+entry-owed-to-requires : tie.Need-entry-owed-to-requires Inv-loop μ-loop
+entry-owed-to-requires c κs =
+    let l = c .before .before in
+    block-length (l .before .before .before .args .book .now) (l .loop .i) (omega (arith, few l, long (l .before .before .before)))
+
+add-sum : tie.Need-add-sum Inv-loop μ-loop
+add-sum c = omega (arith, few (c .before .before .before), turned c .0)
+
+add-i : tie.Need-add-i Inv-loop μ-loop
+add-i c = omega (arith, few (c .before .before .before))
+
+loop-less : tie.Need-loop-less Inv-loop μ-loop
+loop-less c = omega arith
+
+loop-again : tie.Need-loop-again Inv-loop μ-loop
+loop-again c = (omega arith, turned c)
+
+returns : tie.Need-returns Inv-loop μ-loop
+returns c =
+    let l = c .before in
+    let a = l .before .before .before .args in
+    sum-end (ofRailway (a .railway)) (a .book .now) (l .loop .i) (l .loop .sum) (omega arith) (l .loop .inv .1)
+
+pub owed-to-spec : {M : Type 1} → statement M
+owed-to-spec =
+    tie.close
+    (tie.spec
+    Inv-loop
+    μ-loop
+    shared-slice-read-count
+    cast-count
+    loop-holds
+    mul-at
+    add-at
+    add-end
+    mul-entry-owed-to
+    sub-entry-owed-to
+    part-entry-owed-to-start
+    part-entry-owed-to-end
+    entry-owed-to-requires
+    add-sum
+    add-i
+    loop-less
+    loop-again
+    returns)

@@ -1,0 +1,25 @@
+-- `book::total` meets its contract.
+-- Assumes nothing.
+use Rattle.common.specs.Checks.{firstFault}
+use Rattle.common.proofs.Tests.{fails, holds}
+use Rattle.book.specs.Balances.{totalAnswer}
+use borrow.Author.Needs.{needs}
+use Rattle.book.proofs.total.Statement.{statement}
+use Rattle.book.proofs.total.Tie as tie
+
+is-sound-requires : tie.Need-is-sound-requires
+is-sound-requires c κs = search needs
+
+returns : tie.Need-returns
+unfolding totalAnswer firstFault
+returns c = rw (fails (c .before .is-sound .result) (c .if1 .taken) (c .before .is-sound .ensures))
+
+owed-in-all-requires : tie.Need-owed-in-all-requires
+owed-in-all-requires c κs = holds (c .before .is-sound .result) (c .if1 .left) (c .before .is-sound .ensures)
+
+returns-2 : tie.Need-returns-2
+unfolding totalAnswer firstFault
+returns-2 c = let e = c .before in rw (holds (e .before .is-sound .result) (e .if1 .left) (e .before .is-sound .ensures), c .owed-in-all .ensures)
+
+pub total-spec : {M : Type 1} → statement M
+total-spec = tie.close (tie.spec is-sound-requires returns owed-in-all-requires returns-2)

@@ -1,0 +1,17 @@
+-- `book::words::leg_word` meets its contract.
+-- Assumes nothing.
+use borrow.Author.Tests.{ne-eqb}
+use Rattle.book.proofs.words.leg_word.Statement.{statement}
+use Rattle.book.proofs.words.leg_word.Tie as tie
+
+returns : tie.Need-returns
+returns c = rw (c .match .keys1)
+
+returns-2 : tie.Need-returns-2
+returns-2 c = rw (c .match .keys2)
+
+returns-3 : tie.Need-returns-3
+returns-3 c = rw (ne-eqb _ _ (c .match .rest .0 .1), ne-eqb _ _ (c .match .rest .1))
+
+pub leg-word-spec : {M : Type 1} → statement M
+leg-word-spec = tie.close (tie.spec returns returns-2 returns-3)

@@ -1,0 +1,5 @@
+pub mod Words
+pub mod Sound
+pub mod Sales
+pub mod Balances
+pub mod History

@@ -1,0 +1,101 @@
+// What a sale and a cancellation come to, before anything is written.
+ghost use mathlib.Core.Path.{_≡_};
+ghost use Prim.Native.Nat.{_+_, _*_, _≤_};
+ghost use lib.ListN.{length};
+ghost use Rattle.book.specs.Words.{entryAt};
+ghost use Rattle.book.specs.Sales.{refusal, againAnswer, firstAnswer, saleAnswer, cancelAnswer};
+use super::Outcome;
+use super::Receipt;
+use fares::Question;
+
+fn refused(number: u8, place: usize, detail: usize) -> Receipt
+    ensures { λ r. ⌜ r ≡ refusal number place detail ⌝ }
+{
+    Receipt {
+        outcome: Outcome::Refused(number, place, detail),
+        parts: [0; 8],
+    }
+}
+
+pub fn judge_sale(book: &[u32], bundle: &[u8], till: u32, sequence: u64, q: Question) -> Receipt
+    ensures { λ r. ⌜ r ≡ saleAnswer (now (book .entry)) till sequence (now (bundle .entry)) q ⌝ }
+{
+    if !super::sound::is_sound(book) {
+        return refused(21, 0, 0);
+    }
+    if !super::sound::is_number(till, sequence) {
+        return refused(22, 0, 0);
+    }
+    let count = book[0] as usize;
+    let place = super::entries::find(book, count, till, sequence as u32);
+    if place < count {
+        return sold_again(book, place, q);
+    }
+    if 256 <= count {
+        return refused(24, 0, 0);
+    }
+    sold_first(bundle, q)
+}
+
+// A number that is in the book: the same sale again, or another one.
+fn sold_again(book: &[u32], place: usize, q: Question) -> Receipt
+    requires { ⌜ 1 + place * 64 + 64 ≤ length (now book) ⌝ }
+    ensures { λ r. ⌜ r ≡ againAnswer (entryAt (now (book .entry)) place) place q ⌝ }
+{
+    let at = 1 + place * 64;
+    let asked = at + 2;
+    let parts = at + 53;
+    if !super::words::says(&book[asked..parts], q) {
+        return refused(23, place, 0);
+    }
+    Receipt {
+        outcome: Outcome::AlreadyBooked(book[at + 61]),
+        parts: super::words::parts_in(book, parts),
+    }
+}
+
+// A new number: booked if the bundle gives it a fare.
+fn sold_first(bundle: &[u8], q: Question) -> Receipt
+    ensures { λ r. ⌜ r ≡ firstAnswer (now (bundle .entry)) q ⌝ }
+{
+    let quote = fares::fare(bundle, q);
+    let outcome = quote.outcome;
+    match outcome {
+        fares::Outcome::Refused(number, place, detail) => refused(number, place, detail),
+        fares::Outcome::Priced => {
+            let parts = quote.parts;
+            Receipt {
+                outcome: Outcome::Booked,
+                parts,
+            }
+        }
+    }
+}
+
+pub fn judge_cancel(book: &[u32], till: u32, sequence: u64) -> Receipt
+    ensures { λ r. ⌜ r ≡ cancelAnswer (now (book .entry)) till sequence ⌝ }
+{
+    if !super::sound::is_sound(book) {
+        return refused(21, 0, 0);
+    }
+    if !super::sound::is_number(till, sequence) {
+        return refused(22, 0, 0);
+    }
+    let count = book[0] as usize;
+    let place = super::entries::find(book, count, till, sequence as u32);
+    if count <= place {
+        return refused(25, 0, 0);
+    }
+    let at = 1 + place * 64;
+    let parts = super::words::parts_in(book, at + 53);
+    if book[at + 61] == 0 {
+        return Receipt {
+            outcome: Outcome::Cancelled,
+            parts,
+        };
+    }
+    Receipt {
+        outcome: Outcome::AlreadyCancelled,
+        parts,
+    }
+}

@@ -1,0 +1,140 @@
+// Whether a book is sound.
+ghost use mathlib.Core.Path.{_≡_};
+ghost use Prim.Native.Nat.{_+_, _*_, _≤_, _<_};
+ghost use lib.Dec.{eqb, leb};
+ghost use lib.ListN.{length, drop};
+ghost use Rattle.common.specs.Least.{least};
+ghost use Rattle.common.specs.Lists.{every, upTo};
+ghost use Rattle.fares.specs.Reductions.{partBound};
+ghost use Rattle.book.specs.Words.{entryOf, entryAt};
+ghost use Rattle.book.specs.Sound.{isZero, numberInLimits, askedSound, entrySound, numbersDiffer, soundWords};
+use super::words::CAPACITY;
+use super::words::LENGTH;
+
+// Whether a sale number is within its limits.
+pub fn is_number(till: u32, sequence: u64) -> bool
+    ensures { λ r. ⌜ r ≡ numberInLimits till sequence ⌝ }
+{
+    if till < 1 {
+        return false;
+    }
+    if 65535 < till {
+        return false;
+    }
+    if sequence < 1 {
+        return false;
+    }
+    sequence <= 4294967295
+}
+
+pub fn all_zero(words: &[u32]) -> bool
+    ensures { λ r. ⌜ r ≡ every isZero (now (words .entry)) ⌝ }
+{
+    let mut k = 0;
+    while k < words.len() {
+        if words[k] != 0 {
+            return false;
+        }
+        k += 1;
+    }
+    true
+}
+
+fn all_bounded(parts: &[u32]) -> bool
+    ensures { λ r. ⌜ r ≡ every (λ p. leb p partBound) (now (parts .entry)) ⌝ }
+{
+    let mut k = 0;
+    while k < parts.len() {
+        if 99197505 < parts[k] {
+            return false;
+        }
+        k += 1;
+    }
+    true
+}
+
+fn asked_sound(words: &[u32]) -> bool
+    requires { ⌜ length (now words) ≡ 51 ⌝ }
+    ensures { λ r. ⌜ r ≡ askedSound (now (words .entry)) ⌝ }
+{
+    let q = super::words::question_in(words);
+    if !fares::limits::in_limits(q) {
+        return false;
+    }
+    super::words::says(words, q)
+}
+
+// Whether the words of an entry are sound.
+fn entry_sound(words: &[u32]) -> bool
+    requires { ⌜ length (now words) ≡ 64 ⌝ }
+    ensures { λ r. ⌜ r ≡ entrySound (entryOf (now (words .entry))) ⌝ }
+{
+    if !is_number(words[0], words[1] as u64) {
+        return false;
+    }
+    if !asked_sound(&words[2..53]) {
+        return false;
+    }
+    if !all_bounded(&words[53..61]) {
+        return false;
+    }
+    let first = 53 + (words[8] as usize);
+    if !all_zero(&words[first..61]) {
+        return false;
+    }
+    if 1 < words[61] {
+        return false;
+    }
+    all_zero(&words[62..64])
+}
+
+fn entries_sound(book: &[u32], n: usize) -> bool
+    requires { ⌜ (n ≤ 256) × (1 + n * 64 ≤ length (now book)) ⌝ }
+    ensures { λ r. ⌜ r ≡ every entrySound (upTo (entryAt (now (book .entry))) n) ⌝ }
+{
+    let mut i = 0;
+    while i < n {
+        let at = 1 + i * 64;
+        let end = at + 64;
+        if !entry_sound(&book[at..end]) {
+            return false;
+        }
+        i += 1;
+    }
+    true
+}
+
+fn numbers_differ(book: &[u32], n: usize) -> bool
+    requires { ⌜ (n ≤ 256) × (1 + n * 64 ≤ length (now book)) ⌝ }
+    ensures { λ r. ⌜ r ≡ numbersDiffer (upTo (entryAt (now (book .entry))) n) ⌝ }
+{
+    let mut i = 0;
+    while i < n {
+        let at = 1 + i * 64;
+        if super::entries::find(book, i, book[at], book[at + 1]) < i {
+            return false;
+        }
+        i += 1;
+    }
+    true
+}
+
+pub fn is_sound(book: &[u32]) -> bool
+    ensures { λ r. ⌜ r ≡ soundWords (now (book .entry)) ⌝ }
+{
+    if book.len() != LENGTH {
+        return false;
+    }
+    let count = book[0] as usize;
+    if CAPACITY < count {
+        return false;
+    }
+    if !entries_sound(book, count) {
+        return false;
+    }
+    if !numbers_differ(book, count) {
+        return false;
+    }
+    let unused = 1 + count * 64;
+    all_zero(&book[unused..LENGTH])
+}
