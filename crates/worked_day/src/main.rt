@@ -1,0 +1,102 @@
+// A day of one till, sold from the bundle on standard input: a sale, the sale sent again, its cancellation, the sale sent again.
+use book::Outcome;
+use offers::Leg;
+use offers::Question;
+use offers::Receipt;
+use offers::Sum;
+
+// One ticket for three persons over two railways.
+fn ticket() -> Question {
+    let none = Leg {
+        railway: 0,
+        fare: 0,
+    };
+    let first = Leg {
+        railway: 1185,
+        fare: 1010,
+    };
+    let second = Leg {
+        railway: 1181,
+        fare: 500,
+    };
+    Question {
+        offer: 42,
+        day: 20240615,
+        persons: 3,
+        card: 0,
+        count: 2,
+        legs: [first, second, none, none, none, none, none, none],
+    }
+}
+
+fn say(text: &[u8]) {
+    io::write_all(1, text);
+}
+
+fn write_number(n: u64) {
+    say(b" ");
+    io::print_decimal(1, n);
+}
+
+fn write_refusal(number: u8, place: usize, detail: usize) {
+    say(b"NO");
+    write_number(number as u64);
+    write_number(place as u64);
+    write_number(detail as u64);
+}
+
+fn write_outcome(outcome: Outcome) {
+    match outcome {
+        Outcome::Booked => say(b"booked"),
+        Outcome::AlreadyBooked(mark) => {
+            say(b"already booked");
+            if mark != 0 {
+                say(b", cancelled");
+            }
+        }
+        Outcome::Cancelled => say(b"cancelled"),
+        Outcome::AlreadyCancelled => say(b"already cancelled"),
+        Outcome::Refused(number, place, detail) => write_refusal(number, place, detail),
+    }
+}
+
+fn write_sum(sum: Sum) {
+    match sum {
+        Sum::Amount(cents) => write_number(cents),
+        Sum::Refused(number, place, detail) => {
+            say(b" ");
+            write_refusal(number, place, detail);
+        }
+    }
+}
+
+// What came of it with the parts of both railways, and what the book then owes them and in all.
+fn write_line(receipt: Receipt, book: &[u32]) {
+    let outcome = receipt.outcome;
+    let parts = receipt.parts;
+    write_outcome(outcome);
+    say(b": parts");
+    write_number(parts[0] as u64);
+    write_number(parts[1] as u64);
+    say(b"; balances");
+    write_sum(offers::balance(book, 1185));
+    write_sum(offers::balance(book, 1181));
+    say(b"; total");
+    write_sum(offers::total(book));
+    say(b"\n");
+}
+
+fn main() {
+    let mut buffer = [0u8; 4096];
+    let n = io::read_full(0, &mut buffer);
+    let bundle = &buffer[..n];
+    let mut book = [0u32; 16385];
+    let sold = offers::sale(&mut book, bundle, 1, 1, ticket());
+    write_line(sold, &book);
+    let again = offers::sale(&mut book, bundle, 1, 1, ticket());
+    write_line(again, &book);
+    let cancelled = offers::cancel(&mut book, 1, 1);
+    write_line(cancelled, &book);
+    let late = offers::sale(&mut book, bundle, 1, 1, ticket());
+    write_line(late, &book);
+}
