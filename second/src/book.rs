@@ -1,0 +1,478 @@
+//! Renders "The sales book": its entries, its soundness and the calls on it.
+
+pub mod words;
+
+use std::collections::HashSet;
+
+use crate::fare::{priced_parts, Parts, Question, LARGEST_PART};
+use crate::question::is_railway;
+use crate::refusal::Refusal;
+
+pub const MOST_ENTRIES: usize = 256;
+pub const LARGEST_TILL: u64 = 65_535;
+pub const LARGEST_SEQUENCE: u64 = 4_294_967_295;
+
+#[derive(Clone, Copy, Debug, Default, PartialEq, Eq)]
+pub struct Entry {
+    pub till: u64,
+    pub sequence: u64,
+    pub question: Question,
+    pub parts: Parts,
+    pub cancelled: bool,
+}
+
+#[derive(Clone, Debug, Default, PartialEq, Eq)]
+pub struct Book {
+    pub entries: Vec<Entry>,
+}
+
+#[derive(Clone, Copy, Debug, PartialEq, Eq)]
+pub enum Sale {
+    Booked { parts: Parts },
+    AlreadyBooked { parts: Parts, cancelled: bool },
+    Refused(Refusal),
+}
+
+#[derive(Clone, Copy, Debug, PartialEq, Eq)]
+pub enum Cancel {
+    Cancelled { parts: Parts },
+    AlreadyCancelled { parts: Parts },
+    Refused(Refusal),
+}
+
+#[derive(Clone, Copy, Debug, PartialEq, Eq)]
+pub enum Sum {
+    Amount(u64),
+    Refused(Refusal),
+}
+
+impl Entry {
+    pub fn is_sound(&self) -> bool {
+        is_sale_number(self.till, self.sequence)
+            && self.question.is_within_limits()
+            && self.question == self.question.with_unused_slots_zero()
+            && self.parts.iter().all(|&part| part <= LARGEST_PART)
+            && self.parts[self.question.used_slots()..]
+                .iter()
+                .all(|&part| part == 0)
+    }
+
+    fn parts_of(&self, railway: u64) -> impl Iterator<Item = u64> + '_ {
+        self.question
+            .used_legs()
+            .iter()
+            .zip(&self.parts)
+            .filter(move |(leg, _)| leg.railway == railway)
+            .map(|(_, &part)| part)
+    }
+}
+
+fn is_sale_number(till: u64, sequence: u64) -> bool {
+    (1..=LARGEST_TILL).contains(&till) && (1..=LARGEST_SEQUENCE).contains(&sequence)
+}
+
+impl Book {
+    pub fn is_sound(&self) -> bool {
+        self.entries.len() <= MOST_ENTRIES
+            && self.entries.iter().all(Entry::is_sound)
+            && self.numbers_differ()
+    }
+
+    fn numbers_differ(&self) -> bool {
+        let mut seen = HashSet::new();
+        self.entries
+            .iter()
+            .all(|entry| seen.insert((entry.till, entry.sequence)))
+    }
+
+    pub fn place_of(&self, till: u64, sequence: u64) -> Option<usize> {
+        self.entries
+            .iter()
+            .position(|entry| (entry.till, entry.sequence) == (till, sequence))
+    }
+
+    pub fn sale(&mut self, bundle: &[u8], till: u64, sequence: u64, question: &Question) -> Sale {
+        self.try_sale(bundle, till, sequence, question)
+            .unwrap_or_else(Sale::Refused)
+    }
+
+    fn try_sale(
+        &mut self,
+        bundle: &[u8],
+        till: u64,
+        sequence: u64,
+        question: &Question,
+    ) -> Result<Sale, Refusal> {
+        self.check_sound()?;
+        check_sale_number(till, sequence)?;
+        if let Some(place) = self.place_of(till, sequence) {
+            return self.answer_repeat(place, question);
+        }
+        if self.entries.len() == MOST_ENTRIES {
+            return Err(Refusal::of_call(24));
+        }
+        let parts = priced_parts(bundle, question)?;
+        self.entries.push(Entry {
+            till,
+            sequence,
+            question: question.with_unused_slots_zero(),
+            parts,
+            cancelled: false,
+        });
+        Ok(Sale::Booked { parts })
+    }
+
+    fn answer_repeat(&self, place: usize, question: &Question) -> Result<Sale, Refusal> {
+        let entry = &self.entries[place];
+        if !entry.question.is_same_as(question) {
+            return Err(Refusal::at(23, place));
+        }
+        Ok(Sale::AlreadyBooked {
+            parts: entry.parts,
+            cancelled: entry.cancelled,
+        })
+    }
+
+    pub fn cancel(&mut self, till: u64, sequence: u64) -> Cancel {
+        self.try_cancel(till, sequence)
+            .unwrap_or_else(Cancel::Refused)
+    }
+
+    fn try_cancel(&mut self, till: u64, sequence: u64) -> Result<Cancel, Refusal> {
+        self.check_sound()?;
+        check_sale_number(till, sequence)?;
+        let place = self.place_of(till, sequence).ok_or(Refusal::of_call(25))?;
+        let entry = &mut self.entries[place];
+        let parts = entry.parts;
+        if entry.cancelled {
+            return Ok(Cancel::AlreadyCancelled { parts });
+        }
+        entry.cancelled = true;
+        Ok(Cancel::Cancelled { parts })
+    }
+
+    pub fn balance(&self, railway: u64) -> Sum {
+        if let Err(refusal) = self.check_sound() {
+            return Sum::Refused(refusal);
+        }
+        if !is_railway(railway) {
+            return Sum::Refused(Refusal::of_call(11));
+        }
+        let parts = self
+            .live_entries()
+            .flat_map(|entry| entry.parts_of(railway));
+        Sum::Amount(parts.sum())
+    }
+
+    pub fn total(&self) -> Sum {
+        match self.check_sound() {
+            Err(refusal) => Sum::Refused(refusal),
+            Ok(()) => Sum::Amount(self.live_entries().flat_map(|entry| entry.parts).sum()),
+        }
+    }
+
+    fn live_entries(&self) -> impl Iterator<Item = &Entry> {
+        self.entries.iter().filter(|entry| !entry.cancelled)
+    }
+
+    fn check_sound(&self) -> Result<(), Refusal> {
+        if self.is_sound() {
+            Ok(())
+        } else {
+            Err(unsound())
+        }
+    }
+}
+
+fn unsound() -> Refusal {
+    Refusal::of_call(21)
+}
+
+fn check_sale_number(till: u64, sequence: u64) -> Result<(), Refusal> {
+    if is_sale_number(till, sequence) {
+        Ok(())
+    } else {
+        Err(Refusal::of_call(22))
+    }
+}
+
+#[cfg(test)]
+mod tests {
+    use super::*;
+    use crate::fare::Leg;
+    use crate::generate::drafts::{assemble, Draft};
+    use crate::layout::{co, Table};
+
+    fn bundle() -> Vec<u8> {
+        assemble(&[
+            Draft::plain(Table::Co)
+                .with(co::OFFER, "00042")
+                .with(co::RAILWAY, "1185")
+                .with(co::DISCOUNT, "025000"),
+            Draft::plain(Table::Co)
+                .with(co::OFFER, "00042")
+                .with(co::RAILWAY, "1181"),
+        ])
+    }
+
+    fn newer_bundle() -> Vec<u8> {
+        assemble(&[Draft::plain(Table::Co).with(co::OFFER, "00042")])
+    }
+
+    fn two_legs() -> Question {
+        let mut question = Question {
+            offer: 42,
+            day: 20240615,
+            persons: 3,
+            leg_count: 2,
+            ..Question::default()
+        };
+        question.legs[0] = Leg {
+            railway: 1185,
+            fare: 1010,
+        };
+        question.legs[1] = Leg {
+            railway: 1181,
+            fare: 500,
+        };
+        question
+    }
+
+    const PARTS: Parts = [2274, 1500, 0, 0, 0, 0, 0, 0];
+
+    fn refused_sale(answer: Sale) -> (u8, u64, u64) {
+        match answer {
+            Sale::Refused(refusal) => (refusal.number, refusal.place, refusal.detail),
+            other => panic!("{other:?}"),
+        }
+    }
+
+    fn refused_cancel(answer: Cancel) -> (u8, u64, u64) {
+        match answer {
+            Cancel::Refused(refusal) => (refusal.number, refusal.place, refusal.detail),
+            other => panic!("{other:?}"),
+        }
+    }
+
+    fn one_sale() -> Book {
+        let mut book = Book::default();
+        let answer = book.sale(&bundle(), 1, 1, &two_legs());
+        assert_eq!(answer, Sale::Booked { parts: PARTS });
+        book
+    }
+
+    fn full_book() -> Book {
+        let mut entries = vec![one_sale().entries[0]; MOST_ENTRIES];
+        for (entry, sequence) in entries.iter_mut().zip(1..) {
+            entry.sequence = sequence;
+        }
+        Book { entries }
+    }
+
+    fn already(cancelled: bool) -> Sale {
+        Sale::AlreadyBooked {
+            parts: PARTS,
+            cancelled,
+        }
+    }
+
+    #[test]
+    fn the_history_of_the_document() {
+        let mut book = one_sale();
+        assert_eq!(book.total(), Sum::Amount(3774));
+        assert_eq!(book.balance(1185), Sum::Amount(2274));
+        assert_eq!(book.balance(1181), Sum::Amount(1500));
+        assert_eq!(book.sale(&bundle(), 1, 1, &two_legs()), already(false));
+        assert_eq!(book.total(), Sum::Amount(3774));
+        assert_eq!(book.cancel(1, 1), Cancel::Cancelled { parts: PARTS });
+        assert_eq!(book.balance(1185), Sum::Amount(0));
+        assert_eq!(book.balance(1181), Sum::Amount(0));
+        assert_eq!(book.sale(&bundle(), 1, 1, &two_legs()), already(true));
+        assert_eq!(book.total(), Sum::Amount(0));
+        assert_eq!(book.cancel(1, 1), Cancel::AlreadyCancelled { parts: PARTS });
+        assert_eq!(book.entries.len(), 1);
+    }
+
+    #[test]
+    fn a_repeat_is_not_priced_afresh() {
+        let mut book = one_sale();
+        assert_eq!(
+            book.sale(&newer_bundle(), 1, 1, &two_legs()),
+            already(false)
+        );
+        assert_eq!(book.sale(b"XX", 1, 1, &two_legs()), already(false));
+        let oversize = vec![0; 1_048_577];
+        assert_eq!(book.sale(&oversize, 1, 1, &two_legs()), already(false));
+    }
+
+    #[test]
+    fn a_repeat_that_differs_in_unused_slots_is_a_repeat() {
+        let mut book = one_sale();
+        let mut question = two_legs();
+        question.legs[7].fare = u64::MAX;
+        assert_eq!(book.sale(&bundle(), 1, 1, &question), already(false));
+    }
+
+    #[test]
+    fn unused_slots_are_stored_as_zero() {
+        let mut question = two_legs();
+        question.legs[2].railway = 77;
+        let mut book = Book::default();
+        book.sale(&bundle(), 1, 1, &question);
+        assert_eq!(book, one_sale());
+    }
+
+    #[test]
+    fn another_question_is_23_before_11_24_and_the_verdict() {
+        let mut book = full_book();
+        for leg_count in [0, 1, 3, 8, 9, u64::MAX] {
+            let question = Question {
+                leg_count,
+                ..two_legs()
+            };
+            assert_eq!(
+                refused_sale(book.sale(b"XX", 1, 5, &question)),
+                (23, 4, 0),
+                "{leg_count}"
+            );
+        }
+        let other_card = Question {
+            card: 5,
+            ..two_legs()
+        };
+        assert_eq!(
+            refused_sale(book.sale(&bundle(), 1, 256, &other_card)),
+            (23, 255, 0)
+        );
+    }
+
+    #[test]
+    fn a_full_book_is_24_before_the_verdict_and_11() {
+        let mut book = full_book();
+        assert!(book.is_sound());
+        assert_eq!(
+            refused_sale(book.sale(b"XX", 2, 1, &Question::default())),
+            (24, 0, 0)
+        );
+        assert_eq!(
+            refused_sale(book.sale(b"XX", 0, 1, &Question::default())),
+            (22, 0, 0)
+        );
+        for sequence in 1..=256 {
+            assert_eq!(book.cancel(1, sequence), Cancel::Cancelled { parts: PARTS });
+        }
+        assert_eq!(
+            refused_sale(book.sale(&bundle(), 2, 1, &two_legs())),
+            (24, 0, 0)
+        );
+        assert_eq!(book.sale(&bundle(), 1, 7, &two_legs()), already(true));
+    }
+
+    #[test]
+    fn the_verdict_then_11_then_the_legs() {
+        let mut book = one_sale();
+        let before = book.clone();
+        let bad = Question::default();
+        assert_eq!(refused_sale(book.sale(b"XX", 1, 2, &bad)), (2, 0, 0));
+        assert_eq!(refused_sale(book.sale(&bundle(), 1, 2, &bad)), (11, 0, 0));
+        let mut unknown = two_legs();
+        unknown.legs[1].railway = 9;
+        assert_eq!(
+            refused_sale(book.sale(&bundle(), 1, 2, &unknown)),
+            (12, 1, 0)
+        );
+        assert_eq!(book, before);
+    }
+
+    #[test]
+    fn limits_of_the_sale_number() {
+        let mut book = one_sale();
+        for (till, sequence) in [
+            (0, 1),
+            (1, 0),
+            (65_536, 1),
+            (1, 4_294_967_296),
+            (u64::MAX, u64::MAX),
+            ((1 << 32) + 1, 1),
+        ] {
+            let answer = book.sale(&bundle(), till, sequence, &two_legs());
+            assert_eq!(refused_sale(answer), (22, 0, 0));
+            assert_eq!(refused_cancel(book.cancel(till, sequence)), (22, 0, 0));
+        }
+        let answer = book.sale(&bundle(), 65_535, 4_294_967_295, &two_legs());
+        assert_eq!(answer, Sale::Booked { parts: PARTS });
+    }
+
+    #[test]
+    fn the_same_sequence_at_two_tills() {
+        let mut book = one_sale();
+        let answer = book.sale(&bundle(), 2, 1, &two_legs());
+        assert_eq!(answer, Sale::Booked { parts: PARTS });
+        assert_eq!(book.total(), Sum::Amount(2 * 3774));
+        assert_eq!(book.cancel(2, 1), Cancel::Cancelled { parts: PARTS });
+        assert_eq!(book.total(), Sum::Amount(3774));
+    }
+
+    #[test]
+    fn cancel_of_an_unknown_number_is_25() {
+        assert_eq!(refused_cancel(one_sale().cancel(1, 2)), (25, 0, 0));
+        assert_eq!(refused_cancel(Book::default().cancel(1, 1)), (25, 0, 0));
+    }
+
+    #[test]
+    fn balances() {
+        let book = one_sale();
+        assert_eq!(book.balance(0), Sum::Refused(Refusal::of_call(11)));
+        assert_eq!(book.balance(10_000), Sum::Refused(Refusal::of_call(11)));
+        assert_eq!(book.balance(9_999), Sum::Amount(0));
+        let mut twice = book;
+        twice.entries[0].question.legs[1].railway = 1185;
+        assert_eq!(twice.balance(1185), Sum::Amount(3774));
+    }
+
+    #[test]
+    fn totals_may_exceed_32_bits() {
+        let mut book = full_book();
+        for entry in &mut book.entries {
+            entry.question.leg_count = 8;
+            entry.question.legs = [entry.question.legs[0]; 8];
+            entry.parts = [LARGEST_PART; 8];
+        }
+        assert_eq!(book.total(), Sum::Amount(203_156_490_240));
+        assert_eq!(book.balance(1185), Sum::Amount(203_156_490_240));
+    }
+
+    fn is_unsound(change: impl Fn(&mut Book)) -> bool {
+        let mut book = full_book();
+        book.entries.truncate(3);
+        assert!(book.is_sound());
+        change(&mut book);
+        let answers_21 = refused_sale(book.sale(b"XX", 0, 0, &two_legs())) == (21, 0, 0)
+            && refused_cancel(book.cancel(0, 0)) == (21, 0, 0)
+            && book.balance(0) == Sum::Refused(unsound())
+            && book.total() == Sum::Refused(unsound());
+        assert_eq!(answers_21, !book.is_sound());
+        answers_21
+    }
+
+    #[test]
+    fn each_way_to_be_unsound() {
+        assert!(is_unsound(|book| book.entries[2].sequence = 1));
+        assert!(is_unsound(|book| book.entries[1].till = 0));
+        assert!(is_unsound(|book| book.entries[1].till = 65_536));
+        assert!(is_unsound(|book| book.entries[1].sequence = 0));
+        assert!(is_unsound(|book| book.entries[1].sequence = 1 << 32));
+        assert!(is_unsound(|book| book.entries[0].question.day = 20230229));
+        assert!(is_unsound(|book| book.entries[0].question.leg_count = 0));
+        assert!(is_unsound(|book| book.entries[0].question.leg_count = 9));
+        assert!(is_unsound(|book| book.entries[0].question.leg_count = 1));
+        assert!(is_unsound(|book| book.entries[0].question.legs[3].fare = 1));
+        assert!(is_unsound(|book| book.entries[0].parts[2] = 1));
+        assert!(is_unsound(
+            |book| book.entries[0].parts[1] = LARGEST_PART + 1
+        ));
+        assert!(is_unsound(|book| *book = Book {
+            entries: [full_book().entries, vec![one_sale().entries[0]]].concat()
+        }));
+    }
+}

@@ -1,0 +1,541 @@
+//! Renders "Pricing": the records chosen for each leg, the parts and the fare.
+
+use std::collections::HashMap;
+
+use crate::bundle::Record;
+use crate::layout::{ar, co, Table};
+use crate::refusal::Refusal;
+use crate::rounding::{Reduction, Rounding};
+use crate::values::{NO_LEAST_PERSONS, NO_MOST_PERSONS};
+use crate::verdict::accepted_records;
+
+pub use crate::question::{Leg, Question, LEG_SLOTS, NO_CARD};
+
+pub const LARGEST_PART: u64 = 99_197_505;
+pub const LARGEST_FARE: u64 = 4_294_967_295;
+const EVERY_RAILWAY: u64 = 0;
+
+pub type Parts = [u64; LEG_SLOTS];
+
+#[derive(Clone, Copy, Debug, PartialEq, Eq)]
+pub enum Fare {
+    Priced { parts: Parts, total: u64 },
+    Refused(Refusal),
+}
+
+pub fn fare(bundle: &[u8], question: &Question) -> Fare {
+    match priced_parts(bundle, question) {
+        Ok(parts) => Fare::Priced {
+            parts,
+            total: parts.iter().sum(),
+        },
+        Err(refusal) => Fare::Refused(refusal),
+    }
+}
+
+pub fn priced_parts(bundle: &[u8], question: &Question) -> Result<Parts, Refusal> {
+    let records = accepted_records(bundle)?;
+    if !question.is_within_limits() {
+        return Err(Refusal::of_call(11));
+    }
+    let parts = parts_of_legs(&Tariff::of(&records), question)?;
+    if parts.iter().sum::<u64>() > LARGEST_FARE {
+        return Err(Refusal::of_call(16));
+    }
+    Ok(parts)
+}
+
+fn parts_of_legs(tariff: &Tariff, question: &Question) -> Result<Parts, Refusal> {
+    let mut parts = Parts::default();
+    for (place, leg) in question.used_legs().iter().enumerate() {
+        parts[place] = part_of_leg(tariff, question, leg)
+            .map_err(|fault| Refusal::new(fault.number(), place as u64, fault.detail()))?;
+    }
+    Ok(parts)
+}
+
+fn part_of_leg(tariff: &Tariff, question: &Question, leg: &Leg) -> Result<u64, LegFault> {
+    let conditions = tariff
+        .conditions(question.offer, leg.railway)
+        .ok_or(LegFault::NoConditions)?;
+    conditions.check(question)?;
+    let reduced = conditions.reduction.apply(leg.fare);
+    let per_person = match tariff.card_reduction(conditions, question, leg) {
+        Some(reduction) => reduction.apply(reduced),
+        None => reduced,
+    };
+    Ok(per_person * question.persons)
+}
+
+enum LegFault {
+    NoConditions,
+    DayOutside,
+    PersonsOutside,
+    ConditionUnread(u8),
+}
+
+impl LegFault {
+    fn number(&self) -> u8 {
+        match self {
+            LegFault::NoConditions => 12,
+            LegFault::DayOutside => 13,
+            LegFault::PersonsOutside => 14,
+            LegFault::ConditionUnread(_) => 15,
+        }
+    }
+
+    fn detail(&self) -> u64 {
+        match self {
+            LegFault::ConditionUnread(field) => u64::from(*field),
+            _ => 0,
+        }
+    }
+}
+
+struct Period {
+    first: u64,
+    last: u64,
+}
+
+impl Period {
+    fn of(record: &Record, first: u8, last: u8) -> Period {
+        Period {
+            first: record.number_or(first, 0),
+            last: record.number_or(last, 0),
+        }
+    }
+
+    fn holds(&self, day: u64) -> bool {
+        self.first <= day && day <= self.last
+    }
+}
+
+struct Conditions {
+    period: Period,
+    least_persons: u64,
+    most_persons: u64,
+    unread: Option<u8>,
+    allows_card: bool,
+    reduction: Reduction,
+}
+
+impl Conditions {
+    fn of(record: &Record) -> Conditions {
+        Conditions {
+            period: Period::of(record, co::FIRST_DAY, co::LAST_DAY),
+            least_persons: record.number_or(co::LEAST_PERSONS, NO_LEAST_PERSONS),
+            most_persons: record.number_or(co::MOST_PERSONS, NO_MOST_PERSONS),
+            unread: first_unread_condition(record),
+            allows_card: record.is_yes(co::ADDITIONAL_DISCOUNTS),
+            reduction: reduction_of(record, co::DISCOUNT, co::ROUNDING, co::FACTOR),
+        }
+    }
+
+    fn check(&self, question: &Question) -> Result<(), LegFault> {
+        if !self.period.holds(question.day) {
+            return Err(LegFault::DayOutside);
+        }
+        if !(self.least_persons..=self.most_persons).contains(&question.persons) {
+            return Err(LegFault::PersonsOutside);
+        }
+        match self.unread {
+            Some(field) => Err(LegFault::ConditionUnread(field)),
+            None => Ok(()),
+        }
+    }
+}
+
+fn first_unread_condition(record: &Record) -> Option<u8> {
+    co::UNREAD_CONDITIONS
+        .into_iter()
+        .find(|&field| record.is_yes(field))
+}
+
+fn reduction_of(record: &Record, discount: u8, rounding: u8, factor: u8) -> Reduction {
+    let byte = record.value(rounding)[0];
+    Reduction {
+        discount: record.number_or(discount, 0),
+        rounding: Rounding::of_accepted(byte, record.number_or(factor, 0)),
+    }
+}
+
+struct CardDiscount {
+    period: Period,
+    reduction: Reduction,
+}
+
+impl CardDiscount {
+    fn of(record: &Record) -> CardDiscount {
+        CardDiscount {
+            period: Period::of(record, ar::FIRST_DAY, ar::LAST_DAY),
+            reduction: reduction_of(record, ar::DISCOUNT, ar::ROUNDING, ar::FACTOR),
+        }
+    }
+}
+
+#[derive(Default)]
+struct Tariff {
+    conditions: HashMap<(u64, u64), Conditions>,
+    card_discounts: HashMap<(u64, u64, u64), CardDiscount>,
+}
+
+impl Tariff {
+    fn of(records: &[Record]) -> Tariff {
+        let mut tariff = Tariff::default();
+        for record in records {
+            tariff.add(record);
+        }
+        tariff
+    }
+
+    fn add(&mut self, record: &Record) {
+        let number = |field| record.number_or(field, 0);
+        match record.table {
+            Table::Co => {
+                let key = (number(co::OFFER), number(co::RAILWAY));
+                self.conditions.insert(key, Conditions::of(record));
+            }
+            Table::Ar => {
+                let key = (number(ar::OFFER), number(ar::RAILWAY), number(ar::CODE));
+                self.card_discounts.insert(key, CardDiscount::of(record));
+            }
+            Table::Re | Table::Me => (),
+        }
+    }
+
+    fn conditions(&self, offer: u64, railway: u64) -> Option<&Conditions> {
+        [railway, EVERY_RAILWAY]
+            .iter()
+            .find_map(|&place| self.conditions.get(&(offer, place)))
+    }
+
+    fn card_reduction(
+        &self,
+        conditions: &Conditions,
+        question: &Question,
+        leg: &Leg,
+    ) -> Option<Reduction> {
+        if !conditions.allows_card || question.card == NO_CARD {
+            return None;
+        }
+        [leg.railway, EVERY_RAILWAY]
+            .iter()
+            .find_map(|&place| {
+                self.card_discounts
+                    .get(&(question.offer, place, question.card))
+            })
+            .filter(|discount| discount.period.holds(question.day))
+            .map(|discount| discount.reduction)
+    }
+}
+
+#[cfg(test)]
+mod tests {
+    use super::*;
+    use crate::generate::drafts::{assemble, Draft};
+    use crate::layout::{me, re};
+
+    fn conditions(railway: &str) -> Draft {
+        Draft::plain(Table::Co)
+            .with(co::OFFER, "00042")
+            .with(co::RAILWAY, railway)
+    }
+
+    fn quarter_off(railway: &str) -> Draft {
+        conditions(railway).with(co::DISCOUNT, "025000")
+    }
+
+    fn card(railway: &str) -> Draft {
+        Draft::plain(Table::Ar)
+            .with(ar::OFFER, "00042")
+            .with(ar::RAILWAY, railway)
+            .with(ar::CODE, "007")
+            .with(ar::DISCOUNT, "030000")
+    }
+
+    fn card_type() -> Draft {
+        Draft::plain(Table::Re).with(re::CODE, "007")
+    }
+
+    fn asked(persons: u64, card: u64, legs: &[(u64, u64)]) -> Question {
+        let mut question = Question {
+            offer: 42,
+            day: 20240615,
+            persons,
+            card,
+            leg_count: legs.len() as u64,
+            ..Question::default()
+        };
+        for (slot, &(railway, fare)) in question.legs.iter_mut().zip(legs) {
+            *slot = Leg { railway, fare };
+        }
+        question
+    }
+
+    fn total(drafts: &[Draft], question: &Question) -> u64 {
+        match fare(&assemble(drafts), question) {
+            Fare::Priced { total, .. } => total,
+            Fare::Refused(refusal) => panic!("{refusal:?}"),
+        }
+    }
+
+    fn refusal(drafts: &[Draft], question: &Question) -> (u8, u64, u64) {
+        match fare(&assemble(drafts), question) {
+            Fare::Refused(refusal) => (refusal.number, refusal.place, refusal.detail),
+            priced => panic!("{priced:?}"),
+        }
+    }
+
+    #[test]
+    fn three_persons_pay_2274() {
+        let question = asked(3, 0, &[(1185, 1010)]);
+        assert_eq!(total(&[quarter_off("1185")], &question), 2274);
+    }
+
+    #[test]
+    fn parts_stand_in_the_order_of_legs() {
+        let question = asked(3, 0, &[(1185, 1010), (1181, 500)]);
+        let drafts = [quarter_off("1185"), conditions("1181")];
+        assert_eq!(
+            fare(&assemble(&drafts), &question),
+            Fare::Priced {
+                parts: [2274, 1500, 0, 0, 0, 0, 0, 0],
+                total: 3774
+            }
+        );
+    }
+
+    #[test]
+    fn two_discounts_round_twice() {
+        let drafts = [quarter_off("0000").with(33, "Y"), card_type(), card("0000")];
+        assert_eq!(total(&drafts, &asked(1, 7, &[(1185, 1010)])), 531);
+        assert_eq!(total(&drafts, &asked(1, 0, &[(1185, 1010)])), 758);
+        assert_eq!(total(&drafts, &asked(1, 8, &[(1185, 1010)])), 758);
+    }
+
+    #[test]
+    fn figures_through_both_records() {
+        let drafts = [
+            quarter_off("0000")
+                .with(33, "Y")
+                .with(40, "+")
+                .with(41, "010"),
+            card_type(),
+            card("0000").with(9, "-").with(10, "050"),
+        ];
+        assert_eq!(total(&drafts, &asked(1, 0, &[(1185, 1010)])), 760);
+        assert_eq!(total(&drafts, &asked(1, 7, &[(1185, 1010)])), 500);
+        assert_eq!(total(&drafts, &asked(2, 7, &[(1185, 1010)])), 1000);
+    }
+
+    #[test]
+    fn the_card_needs_flag_33() {
+        let drafts = [quarter_off("0000"), card_type(), card("0000")];
+        assert_eq!(total(&drafts, &asked(1, 7, &[(1185, 1010)])), 758);
+    }
+
+    #[test]
+    fn the_record_of_0000_is_a_default_only() {
+        let drafts = [quarter_off("0000"), conditions("1185")];
+        assert_eq!(total(&drafts, &asked(1, 0, &[(1185, 1010)])), 1010);
+        assert_eq!(total(&drafts, &asked(1, 0, &[(1181, 1010)])), 758);
+        let cards = [
+            conditions("0000").with(33, "Y"),
+            card_type(),
+            card("0000"),
+            card("1185").with(ar::DISCOUNT, "050000"),
+        ];
+        assert_eq!(total(&cards, &asked(1, 7, &[(1185, 1000)])), 500);
+        assert_eq!(total(&cards, &asked(1, 7, &[(1181, 1000)])), 700);
+    }
+
+    #[test]
+    fn the_additional_is_chosen_by_the_railway_of_the_leg() {
+        let drafts = [conditions("0000").with(33, "Y"), card_type(), card("1185")];
+        assert_eq!(total(&drafts, &asked(1, 7, &[(1185, 1000)])), 700);
+        assert_eq!(total(&drafts, &asked(1, 7, &[(1181, 1000)])), 1000);
+    }
+
+    #[test]
+    fn a_card_of_another_code_does_not_reduce() {
+        let drafts = [
+            conditions("0000").with(33, "Y"),
+            card_type(),
+            card_type().with(re::CODE, "008"),
+            card("1185").with(ar::CODE, "008"),
+            card("0000"),
+        ];
+        assert_eq!(total(&drafts, &asked(1, 7, &[(1185, 1000)])), 700);
+        assert_eq!(total(&drafts, &asked(1, 8, &[(1181, 1000)])), 1000);
+    }
+
+    #[test]
+    fn no_fallback_on_a_date() {
+        let past = |draft: Draft, first, last| draft.with(first, "20230101").with(last, "20231231");
+        let drafts = [past(conditions("1185"), 42, 44), quarter_off("0000")];
+        assert_eq!(refusal(&drafts, &asked(1, 0, &[(1185, 10)])), (13, 0, 0));
+        let cards = [
+            conditions("0000").with(33, "Y"),
+            card_type(),
+            past(card("1185"), 11, 13),
+            card("0000"),
+        ];
+        assert_eq!(total(&cards, &asked(1, 7, &[(1185, 1000)])), 1000);
+        assert_eq!(total(&cards, &asked(1, 7, &[(1181, 1000)])), 700);
+    }
+
+    #[test]
+    fn both_days_are_inside_the_period() {
+        let drafts = [conditions("0000")
+            .with(co::FIRST_DAY, "20240614")
+            .with(co::LAST_DAY, "20240616")];
+        let on = |day| Question {
+            day,
+            ..asked(1, 0, &[(1185, 7)])
+        };
+        assert_eq!(refusal(&drafts, &on(20240613)), (13, 0, 0));
+        assert_eq!(total(&drafts, &on(20240614)), 7);
+        assert_eq!(total(&drafts, &on(20240616)), 7);
+        assert_eq!(refusal(&drafts, &on(20240617)), (13, 0, 0));
+    }
+
+    #[test]
+    fn the_last_day_of_a_card_is_inside() {
+        let drafts = [
+            conditions("0000").with(33, "Y"),
+            card_type(),
+            card("0000").with(11, "20240615").with(13, "20240615"),
+        ];
+        let on = |day| Question {
+            day,
+            ..asked(1, 7, &[(1185, 1000)])
+        };
+        assert_eq!(total(&drafts, &on(20240614)), 1000);
+        assert_eq!(total(&drafts, &on(20240615)), 700);
+        assert_eq!(total(&drafts, &on(20240616)), 1000);
+    }
+
+    #[test]
+    fn persons_within_28_and_29() {
+        let answered = |least: &str, most: &str, persons| {
+            let draft = conditions("0000").with(28, least).with(29, most);
+            matches!(
+                fare(&assemble(&[draft]), &asked(persons, 0, &[(1185, 7)])),
+                Fare::Priced { .. }
+            )
+        };
+        assert!(answered("  ", "  ", 1) && answered("  ", "  ", 99));
+        assert!(answered("00", "99", 1) && answered("00", "99", 99));
+        assert!(!answered("02", "  ", 1) && answered("02", "  ", 2));
+        assert!(answered("  ", "05", 5) && !answered("  ", "05", 6));
+        assert!(!answered("99", "99", 98) && answered("99", "99", 99));
+        let drafts = [conditions("0000").with(28, "02")];
+        assert_eq!(refusal(&drafts, &asked(1, 0, &[(1185, 7)])), (14, 0, 0));
+    }
+
+    #[test]
+    fn unread_conditions() {
+        let asked_once = asked(1, 0, &[(1185, 7)]);
+        for field in [27, 31, 32, 34, 35] {
+            let drafts = [conditions("0000").with(field, "Y")];
+            assert_eq!(refusal(&drafts, &asked_once), (15, 0, u64::from(field)));
+        }
+        for field in [36, 38] {
+            let drafts = [conditions("0000").with(field, "Y")];
+            assert_eq!(total(&drafts, &asked_once), 7);
+        }
+        let blank = [conditions("0000").with(27, " ").with(30, "9")];
+        assert_eq!(total(&blank, &asked_once), 7);
+        let memo = Draft::plain(Table::Me).with(me::OFFER, "00042");
+        assert_eq!(
+            total(&[conditions("0000").with(37, "Y"), memo], &asked_once),
+            7
+        );
+        let several = [conditions("0000").with(35, "Y").with(32, "Y")];
+        assert_eq!(refusal(&several, &asked_once), (15, 0, 32));
+    }
+
+    #[test]
+    fn order_of_numbers_within_a_leg() {
+        let drafts = [conditions("1185")
+            .with(co::LAST_DAY, "20240601")
+            .with(28, "05")
+            .with(31, "Y")];
+        let question = asked(1, 0, &[(1185, 7)]);
+        assert_eq!(refusal(&drafts, &question), (13, 0, 0));
+        let earlier = Question {
+            day: 20240601,
+            ..question
+        };
+        assert_eq!(refusal(&drafts, &earlier), (14, 0, 0));
+        let five = Question {
+            persons: 5,
+            ..earlier
+        };
+        assert_eq!(refusal(&drafts, &five), (15, 0, 31));
+    }
+
+    #[test]
+    fn a_leg_is_judged_wholly_before_the_next() {
+        let drafts = [conditions("1185").with(35, "Y"), conditions("1181")];
+        let question = asked(1, 0, &[(1181, 7), (1185, 7), (9999, 7)]);
+        assert_eq!(refusal(&drafts, &question), (15, 1, 35));
+        let drafts = [conditions("1185"), conditions("1181").with(35, "Y")];
+        let question = asked(1, 0, &[(1185, 7), (9999, 7), (1181, 7)]);
+        assert_eq!(refusal(&drafts, &question), (12, 1, 0));
+    }
+
+    #[test]
+    fn an_unknown_offer_is_12_at_leg_0() {
+        let question = asked(1, 0, &[(1185, 7)]);
+        assert_eq!(refusal(&[], &question), (12, 0, 0));
+        let other = conditions("0000").with(co::OFFER, "00043");
+        assert_eq!(refusal(&[other], &question), (12, 0, 0));
+    }
+
+    #[test]
+    fn the_verdict_comes_before_11() {
+        let bad = Question::default();
+        assert_eq!(refusal(&[conditions("0000")], &bad), (11, 0, 0));
+        assert_eq!(
+            refusal(&[conditions("0000"), conditions("0000")], &bad),
+            (6, 1, 0)
+        );
+    }
+
+    #[test]
+    fn the_same_railway_may_come_twice() {
+        let question = asked(1, 0, &[(1185, 7), (1185, 8)]);
+        assert_eq!(total(&[conditions("0000")], &question), 15);
+    }
+
+    #[test]
+    fn junk_in_unused_slots_changes_nothing() {
+        let mut question = asked(1, 0, &[(1185, 7)]);
+        question.legs[1] = Leg {
+            railway: 77_777,
+            fare: u64::MAX,
+        };
+        assert_eq!(total(&[conditions("1185")], &question), 7);
+    }
+
+    #[test]
+    fn the_greatest_part_stays_under_the_bound() {
+        let drafts = [
+            conditions("0000")
+                .with(33, "Y")
+                .with(40, "+")
+                .with(41, "998"),
+            card_type(),
+            card("0000")
+                .with(ar::DISCOUNT, "000000")
+                .with(9, "+")
+                .with(10, "997"),
+        ];
+        let part = total(&drafts, &asked(99, 7, &[(1185, 999_999)]));
+        assert_eq!(part, 99_196_515);
+        assert!(part <= LARGEST_PART);
+        let eight = asked(99, 7, &[(1185, 999_999); 8]);
+        assert_eq!(total(&drafts, &eight), 8 * part);
+    }
+}

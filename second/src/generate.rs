@@ -1,0 +1,11 @@
+//! Renders no section: seeded inputs for "The bundle", "Pricing" and "The sales book".
+
+pub mod books;
+pub mod breakage;
+pub mod corpus;
+pub mod damage;
+pub mod drafts;
+pub mod histories;
+pub mod questions;
+pub mod random;
+pub mod valid;

@@ -1,0 +1,279 @@
+//! Renders the soundness of "The sales book" as books that have it and books that lack it.
+
+use std::collections::HashSet;
+
+use super::questions::unaimed_question;
+use super::random::Random;
+use crate::book::words::{empty_book, place, words_of_book, BOOK_WORDS, ENTRY_WORDS};
+use crate::book::{Book, Entry, LARGEST_SEQUENCE, LARGEST_TILL, MOST_ENTRIES};
+use crate::fare::LARGEST_PART;
+use crate::question::{Leg, LEG_SLOTS};
+
+pub fn sound_book(random: &mut Random) -> Book {
+    let count = match random.below(5) {
+        0 => random.pick(&[0, 1, 2, 255, 256]),
+        1 => random.between(3, 256),
+        _ => random.between(1, 12),
+    };
+    sound_book_of(random, count as usize)
+}
+
+pub fn full_book(random: &mut Random) -> Book {
+    sound_book_of(random, MOST_ENTRIES)
+}
+
+pub fn sound_book_of(random: &mut Random, count: usize) -> Book {
+    let mut numbers = HashSet::new();
+    let mut entries = Vec::new();
+    while entries.len() < count {
+        let entry = sound_entry(random);
+        if numbers.insert((entry.till, entry.sequence)) {
+            entries.push(entry);
+        }
+    }
+    Book { entries }
+}
+
+pub fn sound_entry(random: &mut Random) -> Entry {
+    let question = unaimed_question(random).with_unused_slots_zero();
+    let (till, sequence) = sale_number(random);
+    let mut entry = Entry {
+        till,
+        sequence,
+        question,
+        cancelled: random.one_in(3),
+        ..Entry::default()
+    };
+    for slot in 0..question.used_slots() {
+        entry.parts[slot] = random.between_with_ends(0, LARGEST_PART);
+    }
+    entry
+}
+
+pub fn sale_number(random: &mut Random) -> (u64, u64) {
+    match random.below(3) {
+        0 => (random.between(1, 3), random.between(1, 200)),
+        _ => (
+            random.between_with_ends(1, LARGEST_TILL),
+            random.between_with_ends(1, LARGEST_SEQUENCE),
+        ),
+    }
+}
+
+#[derive(Clone, Copy, Debug, PartialEq, Eq)]
+pub enum BookDefect {
+    NoWords,
+    OneWordShort,
+    OneWordLong,
+    CountOverLimit,
+    CountHuge,
+    CountOverEntries,
+    CountUnderEntries,
+    CountWithoutEntries,
+    NumberRepeated,
+    TillZero,
+    TillTooLarge,
+    SequenceZero,
+    OfferZero,
+    OfferTooLarge,
+    NoSuchDay,
+    CardTooLarge,
+    FurtherCard,
+    NoLegs,
+    NineLegs,
+    OneLegMore,
+    OneLegLess,
+    CategorySet,
+    NoPersons,
+    TooManyPersons,
+    FurtherPersons,
+    RailwayZero,
+    RailwayTooLarge,
+    PlainFareTooLarge,
+    StationSet,
+    PartTooLarge,
+    UnusedLegSet,
+    UnusedPartSet,
+    MarkUnknown,
+    ReturnedSet,
+    ReserveSet,
+    UnusedEntrySet,
+    LastWordSet,
+}
+
+impl BookDefect {
+    pub const ALL: [BookDefect; 37] = [
+        BookDefect::NoWords,
+        BookDefect::OneWordShort,
+        BookDefect::OneWordLong,
+        BookDefect::CountOverLimit,
+        BookDefect::CountHuge,
+        BookDefect::CountOverEntries,
+        BookDefect::CountUnderEntries,
+        BookDefect::CountWithoutEntries,
+        BookDefect::NumberRepeated,
+        BookDefect::TillZero,
+        BookDefect::TillTooLarge,
+        BookDefect::SequenceZero,
+        BookDefect::OfferZero,
+        BookDefect::OfferTooLarge,
+        BookDefect::NoSuchDay,
+        BookDefect::CardTooLarge,
+        BookDefect::FurtherCard,
+        BookDefect::NoLegs,
+        BookDefect::NineLegs,
+        BookDefect::OneLegMore,
+        BookDefect::OneLegLess,
+        BookDefect::CategorySet,
+        BookDefect::NoPersons,
+        BookDefect::TooManyPersons,
+        BookDefect::FurtherPersons,
+        BookDefect::RailwayZero,
+        BookDefect::RailwayTooLarge,
+        BookDefect::PlainFareTooLarge,
+        BookDefect::StationSet,
+        BookDefect::PartTooLarge,
+        BookDefect::UnusedLegSet,
+        BookDefect::UnusedPartSet,
+        BookDefect::MarkUnknown,
+        BookDefect::ReturnedSet,
+        BookDefect::ReserveSet,
+        BookDefect::UnusedEntrySet,
+        BookDefect::LastWordSet,
+    ];
+
+    /// The words of a book with this defect and no other.
+    pub fn example(self, random: &mut Random) -> Vec<u32> {
+        let count = random.between(2, 255) as usize;
+        let mut book = sound_book_of(random, count);
+        let victim = random.place_in(count);
+        shorten_question(random, &mut book.entries[victim]);
+        let mut words = words_of_book(&book).expect("a sound book fits its words");
+        let start = 1 + victim * ENTRY_WORDS;
+        self.damage(random, &mut words, count, start);
+        words
+    }
+
+    fn damage(self, random: &mut Random, words: &mut Vec<u32>, count: usize, start: usize) {
+        let used = words[start + place::LEG_COUNT] as usize;
+        let (used_leg, unused_leg) = (
+            random.place_in(used),
+            used + random.place_in(LEG_SLOTS - used),
+        );
+        let mut set = |place: usize, values: &[u32]| words[start + place] = random.pick(values);
+        match self {
+            BookDefect::NoWords => words.clear(),
+            BookDefect::OneWordShort => words.truncate(BOOK_WORDS - 1),
+            BookDefect::OneWordLong => words.push(0),
+            BookDefect::CountOverLimit => words[0] = 257,
+            BookDefect::CountHuge => words[0] = random.pick(&[65_536, 1 << 31, u32::MAX]),
+            BookDefect::CountOverEntries => words[0] += 1,
+            BookDefect::CountUnderEntries => words[0] -= 1,
+            BookDefect::CountWithoutEntries => {
+                *words = empty_book();
+                words[0] = 1;
+            }
+            BookDefect::NumberRepeated => repeat_a_number(random, words, count),
+            BookDefect::TillZero => set(place::TILL, &[0]),
+            BookDefect::TillTooLarge => set(place::TILL, &[65_536, u32::MAX]),
+            BookDefect::SequenceZero => set(place::SEQUENCE, &[0]),
+            BookDefect::OfferZero => set(place::OFFER, &[0]),
+            BookDefect::OfferTooLarge => set(place::OFFER, &[100_000, u32::MAX]),
+            BookDefect::NoSuchDay => set(
+                place::DAY,
+                &[0, 15_821_231, 20_230_229, 20_241_301, 100_000_101],
+            ),
+            BookDefect::CardTooLarge => set(place::CARDS, &[1000, u32::MAX]),
+            BookDefect::FurtherCard => {
+                let further = place::CARDS + 1 + random.place_in(3);
+                words[start + further] = random.pick(&[1, 7, 999]);
+            }
+            BookDefect::NoLegs => set(place::LEG_COUNT, &[0]),
+            BookDefect::NineLegs => set(place::LEG_COUNT, &[9, 256, u32::MAX]),
+            BookDefect::OneLegMore => words[start + place::LEG_COUNT] += 1,
+            BookDefect::OneLegLess => words[start + place::LEG_COUNT] -= 1,
+            BookDefect::CategorySet => set(place::CATEGORIES, &[1, 2, u32::MAX]),
+            BookDefect::NoPersons => set(place::PERSONS, &[0]),
+            BookDefect::TooManyPersons => set(place::PERSONS, &[100, u32::MAX]),
+            BookDefect::FurtherPersons => {
+                let further = place::PERSONS + 1 + random.place_in(10);
+                words[start + further] = random.pick(&[1, 99]);
+            }
+            BookDefect::RailwayZero => set(place::railway(used_leg), &[0]),
+            BookDefect::RailwayTooLarge => set(place::railway(used_leg), &[10_000, u32::MAX]),
+            BookDefect::PlainFareTooLarge => set(place::fare(used_leg), &[1_000_000, u32::MAX]),
+            BookDefect::StationSet => {
+                let station = place::fare(random.place_in(LEG_SLOTS)) + 1 + random.place_in(2);
+                words[start + station] = random.pick(&[1, u32::MAX]);
+            }
+            BookDefect::PartTooLarge => {
+                set(place::PARTS + used_leg, &[99_197_506, u32::MAX]);
+            }
+            BookDefect::UnusedLegSet => {
+                let word = random.pick(&[place::railway(unused_leg), place::fare(unused_leg)]);
+                words[start + word] = random.pick(&[1, 1185]);
+            }
+            BookDefect::UnusedPartSet => set(place::PARTS + unused_leg, &[1, 1500]),
+            BookDefect::MarkUnknown => set(place::MARK, &[2, 3, 257, u32::MAX]),
+            BookDefect::ReturnedSet => set(place::RETURNED, &[1, u32::MAX]),
+            BookDefect::ReserveSet => set(place::RESERVE, &[1, u32::MAX]),
+            BookDefect::UnusedEntrySet => {
+                let first = 1 + count * ENTRY_WORDS;
+                words[first + random.place_in(BOOK_WORDS - first)] = 1;
+            }
+            BookDefect::LastWordSet => words[BOOK_WORDS - 1] = 1,
+        }
+    }
+}
+
+/// At least one leg is left used and one unused, and the used ones are not all zero.
+fn shorten_question(random: &mut Random, entry: &mut Entry) {
+    let used = random.between(1, 7);
+    entry.question.leg_count = used;
+    for slot in 0..LEG_SLOTS {
+        if (slot as u64) < used {
+            entry.question.legs[slot].railway = random.between_with_ends(1, 9999);
+        } else {
+            entry.question.legs[slot] = Leg::default();
+            entry.parts[slot] = 0;
+        }
+    }
+}
+
+fn repeat_a_number(random: &mut Random, words: &mut [u32], count: usize) {
+    let from = random.place_in(count);
+    let to = (from + 1 + random.place_in(count - 1)) % count;
+    for word in [place::TILL, place::SEQUENCE] {
+        words[1 + to * ENTRY_WORDS + word] = words[1 + from * ENTRY_WORDS + word];
+    }
+}
+
+pub fn malformed_book(random: &mut Random) -> Vec<u32> {
+    random.pick(&BookDefect::ALL).example(random)
+}
+
+#[cfg(test)]
+mod tests {
+    use super::*;
+    use crate::book::words::is_sound;
+
+    #[test]
+    fn sound_books_are_sound() {
+        let mut random = Random::from_seed(51);
+        for _ in 0..100 {
+            let book = sound_book(&mut random);
+            assert!(book.is_sound());
+            assert!(is_sound(&words_of_book(&book).unwrap()));
+        }
+    }
+
+    #[test]
+    fn each_defect_makes_a_book_unsound() {
+        let mut random = Random::from_seed(52);
+        for defect in BookDefect::ALL {
+            for _ in 0..20 {
+                assert!(!is_sound(&defect.example(&mut random)), "{defect:?}");
+            }
+        }
+    }
+}

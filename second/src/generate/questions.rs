@@ -1,0 +1,303 @@
+//! Renders the first paragraphs of "Pricing" as questions in and out of their limits.
+
+use super::random::Random;
+use super::valid::drawn_day;
+use crate::bundle::{readable_records, Record};
+use crate::calendar;
+use crate::layout::{ar, co, Table};
+use crate::question::{Leg, Question, LEG_SLOTS};
+
+/// Mostly within its limits and near to what the bundle can price.
+pub fn question(random: &mut Random, bundle: &[u8]) -> Question {
+    if random.one_in(6) {
+        question_out_of_limits(random, bundle)
+    } else {
+        question_in_limits(random, bundle)
+    }
+}
+
+pub fn question_in_limits(random: &mut Random, bundle: &[u8]) -> Question {
+    let records = readable_records(bundle);
+    match Shelf::of_some_offer(random, &records) {
+        Some(shelf) if !random.one_in(30) => aimed_question(random, &shelf),
+        _ => unaimed_question(random),
+    }
+}
+
+/// What a bundle holds about one offer.
+struct Shelf<'a> {
+    offer: u64,
+    conditions: Vec<Record<'a>>,
+    additional: Vec<Record<'a>>,
+}
+
+impl<'a> Shelf<'a> {
+    fn of_some_offer(random: &mut Random, records: &[Record<'a>]) -> Option<Shelf<'a>> {
+        let offers: Vec<u64> = records
+            .iter()
+            .filter(|record| record.table == Table::Co)
+            .map(|record| known(record, co::OFFER))
+            .collect();
+        if offers.is_empty() {
+            return None;
+        }
+        let offer = random.pick(&offers);
+        let of_table = |table, field| -> Vec<Record<'a>> {
+            records
+                .iter()
+                .filter(|record| record.table == table && known(record, field) == offer)
+                .copied()
+                .collect()
+        };
+        Some(Shelf {
+            offer,
+            conditions: of_table(Table::Co, co::OFFER),
+            additional: of_table(Table::Ar, ar::OFFER),
+        })
+    }
+
+    fn conditions_at(&self, railway: u64) -> Option<&Record<'a>> {
+        self.conditions
+            .iter()
+            .find(|record| known(record, co::RAILWAY) == railway)
+    }
+
+    fn drawn_railway(&self, random: &mut Random) -> u64 {
+        let by_default = self.conditions_at(0).is_some() && !self.additional.is_empty();
+        let railway = if by_default && random.one_in(2) {
+            known(&random.pick(&self.additional), ar::RAILWAY)
+        } else {
+            known(&random.pick(&self.conditions), co::RAILWAY)
+        };
+        if railway == 0 || random.one_in(25) {
+            random.between_with_ends(1, 9999)
+        } else {
+            railway
+        }
+    }
+
+    fn drawn_card(&self, random: &mut Random) -> u64 {
+        match random.below(6) {
+            0 => 0,
+            1 => random.between_with_ends(0, 999),
+            _ if self.additional.is_empty() => random.between(0, 999),
+            _ => known(&random.pick(&self.additional), ar::CODE).min(999),
+        }
+    }
+}
+
+fn known(record: &Record, field: u8) -> u64 {
+    record.number_or(field, 0)
+}
+
+pub fn unaimed_question(random: &mut Random) -> Question {
+    let mut question = Question {
+        offer: random.between_with_ends(1, 99_999),
+        day: drawn_day(random, calendar::FIRST_DAY, calendar::LAST_DAY),
+        persons: random.between_with_ends(1, 99),
+        card: random.between_with_ends(0, 999),
+        leg_count: random.between_with_ends(1, 8),
+        ..Question::default()
+    };
+    for slot in 0..question.used_slots() {
+        question.legs[slot] = Leg {
+            railway: random.between_with_ends(1, 9999),
+            fare: drawn_fare(random),
+        };
+    }
+    fill_unused_slots(random, &mut question);
+    question
+}
+
+fn aimed_question(random: &mut Random, shelf: &Shelf) -> Question {
+    let mut question = Question {
+        offer: shelf.offer.clamp(1, 99_999),
+        card: shelf.drawn_card(random),
+        leg_count: random.pick(&[1, 1, 1, 2, 2, 3, 4, 7, 8]),
+        ..Question::default()
+    };
+    let mut window = Window::open();
+    for slot in 0..question.used_slots() {
+        let railway = shelf.drawn_railway(random);
+        question.legs[slot] = Leg {
+            railway,
+            fare: drawn_fare(random),
+        };
+        window.narrow_to(shelf, railway);
+    }
+    question.day = window.drawn_day(random);
+    question.persons = window.drawn_persons(random);
+    fill_unused_slots(random, &mut question);
+    question
+}
+
+fn drawn_fare(random: &mut Random) -> u64 {
+    match random.below(4) {
+        0 => random.pick(&[0, 1, 2, 5, 10, 760, 1010, 999_998, 999_999]),
+        1 => random.between(0, 999_999),
+        _ => random.between(0, 20_000),
+    }
+}
+
+/// Days and persons that suit all legs so far.
+struct Window {
+    first_day: u64,
+    last_day: u64,
+    least: u64,
+    most: u64,
+}
+
+impl Window {
+    fn open() -> Window {
+        Window {
+            first_day: calendar::FIRST_DAY,
+            last_day: calendar::LAST_DAY,
+            least: 1,
+            most: 99,
+        }
+    }
+
+    fn narrow_to(&mut self, shelf: &Shelf, railway: u64) {
+        let record = shelf
+            .conditions_at(railway)
+            .or_else(|| shelf.conditions_at(0));
+        if let Some(record) = record {
+            self.first_day = self.first_day.max(known(record, co::FIRST_DAY));
+            self.last_day = self.last_day.min(known(record, co::LAST_DAY));
+            self.least = self.least.max(known(record, co::LEAST_PERSONS));
+            self.most = self.most.min(record.number_or(co::MOST_PERSONS, 99));
+        }
+    }
+
+    fn drawn_day(&self, random: &mut Random) -> u64 {
+        let (first, last) = (self.first_day, self.last_day);
+        let is_open = first <= last && calendar::is_real_day(first) && calendar::is_real_day(last);
+        if !is_open {
+            return drawn_day(random, calendar::FIRST_DAY, calendar::LAST_DAY);
+        }
+        let day = match random.below(14) {
+            0..=2 => first,
+            3..=5 => last,
+            6 => calendar::day_before(first),
+            7 => calendar::day_after(last),
+            _ => drawn_day(random, first, last),
+        };
+        day.clamp(calendar::FIRST_DAY, calendar::LAST_DAY)
+    }
+
+    fn drawn_persons(&self, random: &mut Random) -> u64 {
+        let (least, most) = (self.least, self.most);
+        if least > most {
+            return random.between_with_ends(1, 99);
+        }
+        let persons = match random.below(14) {
+            0..=2 => least,
+            3..=5 => most,
+            6 => least - 1,
+            7 => most + 1,
+            _ => random.between(least, most),
+        };
+        persons.clamp(1, 99)
+    }
+}
+
+fn fill_unused_slots(random: &mut Random, question: &mut Question) {
+    if random.one_in(2) {
+        return;
+    }
+    for slot in question.used_slots()..LEG_SLOTS {
+        question.legs[slot] = Leg {
+            railway: random.pick(&[0, 1, 1185, 10_000, u64::MAX]),
+            fare: random.pick(&[0, 1, 999_999, 1_000_000, u64::MAX]),
+        };
+    }
+}
+
+pub fn question_out_of_limits(random: &mut Random, bundle: &[u8]) -> Question {
+    let mut question = question_in_limits(random, bundle);
+    for _ in 0..random.pick(&[1, 1, 1, 2]) {
+        break_a_limit(random, &mut question);
+    }
+    question
+}
+
+/// Wide values are also such as look good once cut to 16 or 32 bits.
+pub fn break_a_limit(random: &mut Random, question: &mut Question) {
+    let wide = random.pick(&[1 << 16, 1 << 32, 1 << 48]);
+    let slot = random.place_in(question.used_slots().max(1));
+    match random.below(7) {
+        0 => question.offer = random.pick(&[0, 100_000, u64::MAX, question.offer | (1 << 32)]),
+        1 => {
+            let days = [
+                0,
+                15_821_231,
+                20_230_229,
+                21_000_229,
+                20_241_301,
+                20_240_100,
+                20_240_431,
+                100_000_101,
+                u64::MAX,
+                question.day | (1 << 32),
+            ];
+            question.day = random.pick(&days);
+        }
+        2 => question.persons = random.pick(&[0, 100, 256, u64::MAX, question.persons | wide]),
+        3 => question.card = random.pick(&[1000, 65_535, u64::MAX, question.card | wide]),
+        4 => question.leg_count = random.pick(&[0, 9, 16, u64::MAX, question.leg_count | wide]),
+        5 => question.legs[slot].railway = random.pick(&[0, 10_000, u64::MAX, 1185 | wide]),
+        _ => question.legs[slot].fare = random.pick(&[1_000_000, u64::MAX, 1010 | (1 << 32)]),
+    }
+}
+
+#[cfg(test)]
+mod tests {
+    use super::*;
+    use crate::fare::{fare, Fare};
+    use crate::generate::corpus::Corpus;
+    use crate::generate::valid::valid_bundle;
+    use std::collections::BTreeMap;
+
+    #[test]
+    fn questions_keep_or_leave_their_limits() {
+        let mut random = Random::from_seed(41);
+        for _ in 0..300 {
+            let bundle = valid_bundle(&mut random);
+            assert!(question_in_limits(&mut random, &bundle).is_within_limits());
+            assert!(!question_out_of_limits(&mut random, &bundle).is_within_limits());
+        }
+    }
+
+    #[test]
+    fn any_bundle_can_be_asked_about() {
+        let mut random = Random::from_seed(42);
+        let corpus = Corpus::of_seed(42);
+        for index in 0..490 {
+            let bundle = corpus.bundle(index);
+            assert!(question_in_limits(&mut random, &bundle).is_within_limits());
+        }
+    }
+
+    #[test]
+    fn questions_reach_every_answer_of_pricing() {
+        let mut random = Random::from_seed(43);
+        let mut reached: BTreeMap<(u8, u64), u64> = BTreeMap::new();
+        for _ in 0..300 {
+            let bundle = valid_bundle(&mut random);
+            for _ in 0..10 {
+                let asked = question(&mut random, &bundle);
+                let outcome = match fare(&bundle, &asked) {
+                    Fare::Priced { .. } => (0, 0),
+                    Fare::Refused(refusal) => (refusal.number, refusal.detail),
+                };
+                *reached.entry(outcome).or_default() += 1;
+            }
+        }
+        let expected: Vec<(u8, u64)> = [(0, 0), (11, 0), (12, 0), (13, 0), (14, 0)]
+            .into_iter()
+            .chain([27, 31, 32, 34, 35].map(|field| (15, field)))
+            .collect();
+        assert_eq!(reached.keys().copied().collect::<Vec<_>>(), expected);
+        assert!(reached[&(0, 0)] > 800, "{reached:?}");
+    }
+}

@@ -1,0 +1,14 @@
+//! Independent second program, rendering document 01 as a whole, one module per section.
+
+pub mod book;
+pub mod bundle;
+pub mod calendar;
+pub mod fare;
+pub mod generate;
+pub mod layout;
+pub mod program;
+pub mod question;
+pub mod refusal;
+pub mod rounding;
+pub mod values;
+pub mod verdict;
