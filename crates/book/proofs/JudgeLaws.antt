@@ -22,7 +22,7 @@ use Rattle.common.proofs.Parts.{part-rest}
 use Rattle.bundle.specs.Records.{recordsOf}
 use Rattle.fares.specs.Fare.{partsOf, fareChecks, quoted, fareOf}
 use Rattle.fares.specs.declared.Question.{Question}
-use Rattle.fares.specs.declared.Outcome.the-variants.{Priced, Refused as NoFare}
+use Rattle.fares.specs.declared.Pricing.the-variants.{Priced, Refused as NoFare}
 use Rattle.book.specs.Words.{Entry, noEntry, entryAt, capacity, width, countOf, entries, questionWords, booking}
 use Rattle.book.specs.Sound.{numberInLimits, sameNumber, placeOf, soundWords}
 use Rattle.book.specs.Sales.{refusal, receipt, unlessFault, isClean, place, isPresent, present, saleChecks, saleAnswer, isBooked, added, saleWords, cancelChecks, cancelAnswer, isCancelled, cancelWords, againAnswer, firstAnswer}

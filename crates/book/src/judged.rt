@@ -61,8 +61,8 @@ fn sold_first(bundle: &[u8], q: Question) -> Receipt
     let quote = fares::fare(bundle, q);
     let outcome = quote.outcome;
     match outcome {
-        fares::Outcome::Refused(number, place, detail) => refused(number, place, detail),
-        fares::Outcome::Priced => {
+        fares::Pricing::Refused(number, place, detail) => refused(number, place, detail),
+        fares::Pricing::Priced => {
             let parts = quote.parts;
             Receipt {
                 outcome: Outcome::Booked,

@@ -22,8 +22,8 @@ use Rattle.fares.specs.Legs.{partBy, partOf, chosenBody, conditionsFor, 
 use Rattle.fares.specs.Fare.{partsOf, mostFare, fareChecks, refusal, priced, quoted, fareOf}
 use Rattle.fares.specs.declared.Question.{Question}
 use Rattle.fares.specs.declared.Quote.{Quote}
-use Rattle.fares.specs.declared.Outcome.{Outcome}
-use Rattle.fares.specs.declared.Outcome.the-variants.{Priced, Refused}
+use Rattle.fares.specs.declared.Pricing.{Pricing}
+use Rattle.fares.specs.declared.Pricing.the-variants.{Priced, Refused}
 use Rattle.fares.proofs.FareLaws.{Asked, asked, sum-of-parts}
 
 -- a quote tells what was found

@@ -13,7 +13,7 @@ use Rattle.fares.specs.Question.{legsOf, inLimits}
 use Rattle.fares.specs.Legs.{legChecks, partOf}
 use Rattle.fares.specs.declared.Question.{Question}
 use Rattle.fares.specs.declared.Quote.{Quote}
-use Rattle.fares.specs.declared.Outcome.the-variants.{Priced, Refused}
+use Rattle.fares.specs.declared.Pricing.the-variants.{Priced, Refused}
 
 -- the parts of the legs, zeros after them to eight
 unfoldable pub partsOf : List Rec → Question → List ℕ

@@ -9,12 +9,14 @@ mod reductions;
 mod rounding;
 
 // A leg: its railway, and the plain fare per person in cents.
+#[repr(C)]
 pub struct Leg {
     pub railway: u32,
     pub fare: u32,
 }
 
 // What is asked: `day` is a number YYYYMMDD, `card` 0 is none, and legs from `count` on are not looked at.
+#[repr(C)]
 pub struct Question {
     pub offer: u32,
     pub day: u32,
@@ -25,14 +27,14 @@ pub struct Question {
 }
 
 // Whether a fare was found, or why not: number, place and detail.
-pub enum Outcome {
+pub enum Pricing {
     Priced,
     Refused(u8, usize, usize),
 }
 
 // The parts of the legs in cents, zeros after them, and the fare as their sum; all zero where it is refused.
 pub struct Quote {
-    pub outcome: Outcome,
+    pub outcome: Pricing,
     pub fare: u64,
     pub parts: [u32; 8],
 }
@@ -41,7 +43,7 @@ fn refused(number: u8, place: usize, detail: usize) -> Quote
     ensures { λ r. ⌜ r ≡ refusal number place detail ⌝ }
 {
     Quote {
-        outcome: Outcome::Refused(number, place, detail),
+        outcome: Pricing::Refused(number, place, detail),
         fare: 0,
         parts: [0; 8],
     }
@@ -79,7 +81,7 @@ pub fn price(bundle: &[u8], q: Question) -> Quote
         return refused(16, 0, 0);
     }
     Quote {
-        outcome: Outcome::Priced,
+        outcome: Pricing::Priced,
         fare,
         parts,
     }

@@ -26,7 +26,7 @@ use Rattle.fares.specs.Fare.{partsOf, mostFare, fareChecks, refusal, priced, fa
 use Rattle.fares.specs.declared.Leg.{Leg}
 use Rattle.fares.specs.declared.Question.{Question}
 use Rattle.fares.specs.declared.Quote.{Quote}
-use Rattle.fares.specs.declared.Outcome.the-variants.{Priced, Refused as NoFare}
+use Rattle.fares.specs.declared.Pricing.the-variants.{Priced, Refused as NoFare}
 use Rattle.fares.specs.declared.reductions.Reduction.{Reduction}
 use Rattle.fares.proofs.RoundLaws.{up-is, down-is, near-is, up-only, down-only, near-only}
 use Rattle.fares.proofs.StepLaws.{whole-discount}

@@ -10,11 +10,12 @@ pub use bundle::Judgement;
 
 // What is asked of a fare, and what is answered: the parts and their sum, or number, place and detail with all amounts zero.
 pub use fares::Leg;
-pub use fares::Outcome;
+pub use fares::Pricing;
 pub use fares::Question;
 pub use fares::Quote;
 
-// What a sale or a cancellation answers: what came of it (`book::Outcome`) and the sale's parts; and what a balance or the total is.
+// What a sale or a cancellation answers: what came of it and the sale's parts; and what a balance or the total is.
+pub use book::Outcome;
 pub use book::Receipt;
 pub use book::Sum;
 

@@ -1,5 +1,5 @@
 // A day of one till, sold from the bundle on standard input: a sale, the sale sent again, its cancellation, the sale sent again.
-use book::Outcome;
+use offers::Outcome;
 use offers::Leg;
 use offers::Question;
 use offers::Receipt;

@@ -23,7 +23,7 @@ use Rattle.fares.specs.Legs.{legChecks, partOf, answered}
 use Rattle.fares.specs.Fare.{partsOf, mostFare, priceChecks, priceOf}
 use Rattle.fares.specs.Reductions.{partBound}
 use Rattle.common.proofs.Checks.{orElse}
-use Rattle.fares.specs.declared.Outcome.the-variants.{Priced}
+use Rattle.fares.specs.declared.Pricing.the-variants.{Priced}
 use Rattle.fares.specs.declared.Question.{Question}
 use Rattle.fares.specs.declared.Leg.{Leg}
 use Rattle.fares.proofs.FareLaws.{Asked, asked, is-refused, is-part, limits-fail, left, left-start, left-step, left-end, by-leg, all-well, part-small, sum-of-parts}
