@@ -8,14 +8,14 @@ use lib.ListN.{getD}
 use Rattle.common.specs.Lists.{sum, upTo}
 use Rattle.common.specs.Checks.{Finding, clean, fault, Check, check, firstFault}
 use Rattle.fares.specs.Question.{between}
-use Rattle.book.specs.Words.{Entry, entries}
+use Rattle.book.specs.Words.{Entry, entries, railwayAt}
 use Rattle.book.specs.Sound.{soundWords}
 use Rattle.book.specs.declared.Sum.{Sum}
 use Rattle.book.specs.declared.Sum.the-variants.{Amount, Refused}
 
 -- what of a question's words and its parts counts: the parts of a railway's legs, or all parts
 abbrev pub legPart : ℕ → List ℕ → List ℕ → ℕ → ℕ
-legPart railway asked parts j = cond (eqb (getD asked (19 + 4 * j) 0) railway) (getD parts j 0) 0
+legPart railway asked parts j = cond (eqb (getD asked (railwayAt j) 0) railway) (getD parts j 0) 0
 
 abbrev pub ofRailway : ℕ → List ℕ → List ℕ → ℕ
 ofRailway railway asked parts = sum (upTo (legPart railway asked parts) 8)

@@ -11,7 +11,7 @@ use Rattle.common.specs.Checks.{Finding, clean, fault, Check, check, firstFault
 use Rattle.bundle.specs.Records.{recordsOf}
 use Rattle.fares.specs.Fare.{partsOf, fareChecks}
 use Rattle.fares.specs.declared.Question.{Question}
-use Rattle.book.specs.Words.{Entry, noEntry, capacity, width, countOf, entries, questionWords, booking, wordsOf}
+use Rattle.book.specs.Words.{Entry, noEntry, capacity, width, markAt, countOf, entries, questionWords, booking, wordsOf}
 use Rattle.book.specs.Sound.{numberInLimits, placeOf, soundWords}
 use Rattle.book.specs.declared.Outcome.{Outcome}
 use Rattle.book.specs.declared.Outcome.the-variants.{Booked, AlreadyBooked, Cancelled, AlreadyCancelled, Refused}
@@ -88,7 +88,7 @@ module _ (w : List ℕ) (t s : ℕ) where
 
   -- "one mark set"
   unfoldable pub cancelWords : List ℕ
-  cancelWords = cond isCancelled (set w (1 + place * width + 61) 1) w
+  cancelWords = cond isCancelled (set w (1 + place * width + markAt) 1) w
 
 -- the answer on a number that is in the book, and on a new one, in a book that is sound
 unfoldable pub againAnswer : Entry → ℕ → Question → Receipt

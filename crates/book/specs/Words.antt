@@ -25,6 +25,18 @@ abbrev pub bookLength : ℕ
 bookLength = 1 + capacity * width
 
 -- AN ENTRY: till and sequence, the question's words, eight parts, the mark (0 live, 1 cancelled), and two words that are kept zero
+abbrev pub askedAt : ℕ
+askedAt = 2
+
+abbrev pub partsAt : ℕ
+partsAt = 53
+
+abbrev pub markAt : ℕ
+markAt = 61
+
+abbrev pub spareAt : ℕ
+spareAt = 62
+
 pub record Entry : Type 0 where
   pub till : ℕ
   pub sequence : ℕ
@@ -38,10 +50,10 @@ entryOf b =
     record {
       till = getD b 0 0;
       sequence = getD b 1 0;
-      asked = take questionWidth (drop 2 b);
-      parts = take 8 (drop 53 b);
-      mark = getD b 61 0;
-      spare = take 2 (drop 62 b);
+      asked = take questionWidth (drop askedAt b);
+      parts = take 8 (drop partsAt b);
+      mark = getD b markAt 0;
+      spare = take 2 (drop spareAt b);
     }
 
 abbrev pub entryAt : List ℕ → ℕ → Entry
@@ -59,6 +71,15 @@ entries w = upTo (entryAt w) (countOf w)
 
 -- A QUESTION'S WORDS: offer 0, day 1, card 2 (three more cards are kept zero), leg count 6, category and persons 7 and 8 (five more pairs are kept
 -- zero), and from 19 on four words for each of eight legs: railway, fare, and two that are kept zero. A leg from the leg count on has zeros.
+abbrev pub legsAt : ℕ
+legsAt = 19
+
+abbrev pub railwayAt : ℕ → ℕ
+railwayAt j = 19 + 4 * j
+
+abbrev pub fareAt : ℕ → ℕ
+fareAt j = 20 + 4 * j
+
 abbrev pub legAt : Question → ℕ → Leg
 legAt q j = cond (ltb j (q .count) && ltb j 8) (getD (q .legs) j noLeg) noLeg
 
@@ -70,14 +91,14 @@ questionWord q k =
     cond (eqb k 0) (q .offer)
     (cond (eqb k 1) (q .day)
     (cond (eqb k 2) (q .card)
-    (cond (eqb k 6) (q .count) (cond (eqb k 8) (q .persons) (cond (ltb k 19) 0 (legWord (legAt q ((k - 19) / 4)) ((k - 19) % 4)))))))
+    (cond (eqb k 6) (q .count) (cond (eqb k 8) (q .persons) (cond (ltb k legsAt) 0 (legWord (legAt q ((k - legsAt) / 4)) ((k - legsAt) % 4)))))))
 
 unfoldable pub questionWords : Question → List ℕ
 questionWords q = upTo (questionWord q) questionWidth
 
 -- the question that the words say
 abbrev pub legOf : List ℕ → ℕ → Leg
-legOf ws j = record { railway = getD ws (19 + 4 * j) 0; fare = getD ws (20 + 4 * j) 0 }
+legOf ws j = record { railway = getD ws (railwayAt j) 0; fare = getD ws (fareAt j) 0 }
 
 unfoldable pub questionOf : List ℕ → Question
 questionOf ws =
@@ -100,4 +121,4 @@ wordsOf e = e .till ∷ e .sequence ∷ (e .asked ++ (e .parts ++ (e .mark ∷ e
 -- word k of a new entry
 unfoldable pub entryWord : ℕ → ℕ → Question → List ℕ → ℕ → ℕ
 entryWord t s q parts k =
-    cond (ltb k 1) t (cond (ltb k 2) s (cond (ltb k 53) (questionWord q (k - 2)) (cond (ltb k 61) (getD parts (k - 53) 0) 0)))
+    cond (ltb k 1) t (cond (ltb k askedAt) s (cond (ltb k partsAt) (questionWord q (k - askedAt)) (cond (ltb k markAt) (getD parts (k - partsAt) 0) 0)))

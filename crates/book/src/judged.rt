@@ -2,10 +2,15 @@
 ghost use mathlib.Core.Path.{_≡_};
 ghost use Prim.Native.Nat.{_+_, _*_, _≤_};
 ghost use lib.ListN.{length};
-ghost use Rattle.book.specs.Words.{entryAt};
+ghost use Rattle.book.specs.Words.{width, entryAt};
 ghost use Rattle.book.specs.Sales.{refusal, againAnswer, firstAnswer, saleAnswer, cancelAnswer};
 use super::Outcome;
 use super::Receipt;
+use super::words::ASKED;
+use super::words::CAPACITY;
+use super::words::MARK;
+use super::words::PARTS;
+use super::words::WIDTH;
 use fares::Question;
 
 fn refused(number: u8, place: usize, detail: usize) -> Receipt
@@ -31,7 +36,7 @@ pub fn judge_sale(book: &[u32], bundle: &[u8], till: u32, sequence: u64, q: Ques
     if place < count {
         return sold_again(book, place, q);
     }
-    if 256 <= count {
+    if CAPACITY <= count {
         return refused(24, 0, 0);
     }
     sold_first(bundle, q)
@@ -39,17 +44,17 @@ pub fn judge_sale(book: &[u32], bundle: &[u8], till: u32, sequence: u64, q: Ques
 
 // A number that is in the book: the same sale again, or another one.
 fn sold_again(book: &[u32], place: usize, q: Question) -> Receipt
-    requires { ⌜ 1 + place * 64 + 64 ≤ length (now book) ⌝ }
+    requires { ⌜ 1 + place * width + width ≤ length (now book) ⌝ }
     ensures { λ r. ⌜ r ≡ againAnswer (entryAt (now (book .entry)) place) place q ⌝ }
 {
-    let at = 1 + place * 64;
-    let asked = at + 2;
-    let parts = at + 53;
+    let at = 1 + place * WIDTH;
+    let asked = at + ASKED;
+    let parts = at + PARTS;
     if !super::words::says(&book[asked..parts], q) {
         return refused(23, place, 0);
     }
     Receipt {
-        outcome: Outcome::AlreadyBooked(book[at + 61]),
+        outcome: Outcome::AlreadyBooked(book[at + MARK]),
         parts: super::words::parts_in(book, parts),
     }
 }
@@ -86,9 +91,9 @@ pub fn judge_cancel(book: &[u32], till: u32, sequence: u64) -> Receipt
     if count <= place {
         return refused(25, 0, 0);
     }
-    let at = 1 + place * 64;
-    let parts = super::words::parts_in(book, at + 53);
-    if book[at + 61] == 0 {
+    let at = 1 + place * WIDTH;
+    let parts = super::words::parts_in(book, at + PARTS);
+    if book[at + MARK] == 0 {
         return Receipt {
             outcome: Outcome::Cancelled,
             parts,

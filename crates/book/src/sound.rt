@@ -6,10 +6,17 @@ ghost use lib.ListN.{length, drop};
 ghost use Rattle.common.specs.Least.{least};
 ghost use Rattle.common.specs.Lists.{every, upTo};
 ghost use Rattle.fares.specs.Reductions.{partBound};
-ghost use Rattle.book.specs.Words.{entryOf, entryAt};
+ghost use Rattle.book.specs.Words.{capacity, width, questionWidth, entryOf, entryAt};
 ghost use Rattle.book.specs.Sound.{isZero, numberInLimits, askedSound, entrySound, numbersDiffer, soundWords};
+use super::words::ASKED;
 use super::words::CAPACITY;
+use super::words::LEG_COUNT;
 use super::words::LENGTH;
+use super::words::MARK;
+use super::words::PARTS;
+use super::words::SEQUENCE;
+use super::words::SPARE;
+use super::words::WIDTH;
 
 // Whether a sale number is within its limits.
 pub fn is_number(till: u32, sequence: u64) -> bool
@@ -54,7 +61,7 @@ fn all_bounded(parts: &[u32]) -> bool
 }
 
 fn asked_sound(words: &[u32]) -> bool
-    requires { ⌜ length (now words) ≡ 51 ⌝ }
+    requires { ⌜ length (now words) ≡ questionWidth ⌝ }
     ensures { λ r. ⌜ r ≡ askedSound (now (words .entry)) ⌝ }
 {
     let q = super::words::question_in(words);
@@ -66,36 +73,36 @@ fn asked_sound(words: &[u32]) -> bool
 
 // Whether the words of an entry are sound.
 fn entry_sound(words: &[u32]) -> bool
-    requires { ⌜ length (now words) ≡ 64 ⌝ }
+    requires { ⌜ length (now words) ≡ width ⌝ }
     ensures { λ r. ⌜ r ≡ entrySound (entryOf (now (words .entry))) ⌝ }
 {
-    if !is_number(words[0], words[1] as u64) {
+    if !is_number(words[0], words[SEQUENCE] as u64) {
         return false;
     }
-    if !asked_sound(&words[2..53]) {
+    if !asked_sound(&words[ASKED..PARTS]) {
         return false;
     }
-    if !all_bounded(&words[53..61]) {
+    if !all_bounded(&words[PARTS..MARK]) {
         return false;
     }
-    let first = 53 + (words[8] as usize);
-    if !all_zero(&words[first..61]) {
+    let first = PARTS + (words[LEG_COUNT] as usize);
+    if !all_zero(&words[first..MARK]) {
         return false;
     }
-    if 1 < words[61] {
+    if 1 < words[MARK] {
         return false;
     }
-    all_zero(&words[62..64])
+    all_zero(&words[SPARE..WIDTH])
 }
 
 fn entries_sound(book: &[u32], n: usize) -> bool
-    requires { ⌜ (n ≤ 256) × (1 + n * 64 ≤ length (now book)) ⌝ }
+    requires { ⌜ (n ≤ capacity) × (1 + n * width ≤ length (now book)) ⌝ }
     ensures { λ r. ⌜ r ≡ every entrySound (upTo (entryAt (now (book .entry))) n) ⌝ }
 {
     let mut i = 0;
     while i < n {
-        let at = 1 + i * 64;
-        let end = at + 64;
+        let at = 1 + i * WIDTH;
+        let end = at + WIDTH;
         if !entry_sound(&book[at..end]) {
             return false;
         }
@@ -105,13 +112,13 @@ fn entries_sound(book: &[u32], n: usize) -> bool
 }
 
 fn numbers_differ(book: &[u32], n: usize) -> bool
-    requires { ⌜ (n ≤ 256) × (1 + n * 64 ≤ length (now book)) ⌝ }
+    requires { ⌜ (n ≤ capacity) × (1 + n * width ≤ length (now book)) ⌝ }
     ensures { λ r. ⌜ r ≡ numbersDiffer (upTo (entryAt (now (book .entry))) n) ⌝ }
 {
     let mut i = 0;
     while i < n {
-        let at = 1 + i * 64;
-        if super::entries::find(book, i, book[at], book[at + 1]) < i {
+        let at = 1 + i * WIDTH;
+        if super::entries::find(book, i, book[at], book[at + SEQUENCE]) < i {
             return false;
         }
         i += 1;
@@ -135,6 +142,6 @@ pub fn is_sound(book: &[u32]) -> bool
     if !numbers_differ(book, count) {
         return false;
     }
-    let unused = 1 + count * 64;
+    let unused = 1 + count * WIDTH;
     all_zero(&book[unused..LENGTH])
 }

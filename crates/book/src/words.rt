@@ -1,15 +1,52 @@
 // The words of a book and of its entries.
 ghost use mathlib.Core.Path.{_≡_};
-ghost use Prim.Native.Nat.{_+_, _≤_};
+ghost use Prim.Native.Nat.{_+_, _≤_, _<_};
 ghost use lib.ListN.{length, getD, take, drop};
 ghost use Rattle.common.specs.Lists.{same};
-ghost use Rattle.book.specs.Words.{legAt, legWord, questionWord, questionWords, questionOf};
+ghost use Rattle.book.specs.Words.{questionWidth, legAt, legOf, legWord, questionWord, questionWords, questionOf};
 use fares::Leg;
 use fares::Question;
 
+// A book is its count, and then its entries.
 pub const CAPACITY: usize = 256;
 
 pub const LENGTH: usize = 16385;
+
+// An entry's words, and where its values stand: the till at 0, then these.
+pub const WIDTH: usize = 64;
+
+pub const SEQUENCE: usize = 1;
+
+pub const ASKED: usize = 2;
+
+// The leg count and the first leg's railway are words of the question.
+pub const LEG_COUNT: usize = 8;
+
+pub const RAILWAYS: usize = 21;
+
+pub const PARTS: usize = 53;
+
+pub const MARK: usize = 61;
+
+pub const SPARE: usize = 62;
+
+// The words of a question, and where each value stands in them.
+pub const QUESTION_WIDTH: usize = 51;
+
+const OFFER: usize = 0;
+
+const DAY: usize = 1;
+
+const CARD: usize = 2;
+
+const COUNT: usize = 6;
+
+const PERSONS: usize = 8;
+
+const LEGS: usize = 19;
+
+// The words of a leg: its railway, its fare, and two that are kept zero.
+pub const LEG_WIDTH: usize = 4;
 
 // Leg j of a question, zeros from the leg count on.
 fn leg_at(q: Question, j: usize) -> Leg
@@ -47,50 +84,51 @@ pub fn question_word(q: Question, k: usize) -> u32
     ensures { λ r. ⌜ r ≡ questionWord q k ⌝ }
 {
     match k {
-        0 => q.offer,
-        1 => q.day,
-        2 => q.card,
-        6 => q.count,
-        8 => q.persons,
+        OFFER => q.offer,
+        DAY => q.day,
+        CARD => q.card,
+        COUNT => q.count,
+        PERSONS => q.persons,
         _ => {
-            if k < 19 {
+            if k < LEGS {
                 return 0;
             }
-            leg_word(leg_at(q, (k - 19) / 4), (k - 19) % 4)
+            leg_word(leg_at(q, (k - LEGS) / LEG_WIDTH), (k - LEGS) % LEG_WIDTH)
         }
     }
 }
 
-fn leg_in(book: &[u32], at: usize) -> Leg
-    requires { ⌜ at + 2 ≤ length (now book) ⌝ }
-    ensures { λ r. ⌜ (r .railway ≡ getD (now (book .entry)) at 0) × (r .fare ≡ getD (now (book .entry)) (at + 1) 0) ⌝ }
+fn leg_in(words: &[u32], j: usize) -> Leg
+    requires { ⌜ (length (now words) ≡ questionWidth) × (j < 8) ⌝ }
+    ensures { λ r. ⌜ r ≡ legOf (now (words .entry)) j ⌝ }
 {
+    let at = LEGS + LEG_WIDTH * j;
     Leg {
-        railway: book[at],
-        fare: book[at + 1],
+        railway: words[at],
+        fare: words[at + 1],
     }
 }
 
 // The question that the words of an entry say, which start at a place.
 pub fn question_in(words: &[u32]) -> Question
-    requires { ⌜ length (now words) ≡ 51 ⌝ }
+    requires { ⌜ length (now words) ≡ questionWidth ⌝ }
     ensures { λ r. ⌜ r ≡ questionOf (now (words .entry)) ⌝ }
 {
     Question {
-        offer: words[0],
-        day: words[1],
-        persons: words[8],
-        card: words[2],
-        count: words[6],
+        offer: words[OFFER],
+        day: words[DAY],
+        persons: words[PERSONS],
+        card: words[CARD],
+        count: words[COUNT],
         legs: [
-            leg_in(words, 19),
-            leg_in(words, 23),
-            leg_in(words, 27),
-            leg_in(words, 31),
-            leg_in(words, 35),
-            leg_in(words, 39),
-            leg_in(words, 43),
-            leg_in(words, 47),
+            leg_in(words, 0),
+            leg_in(words, 1),
+            leg_in(words, 2),
+            leg_in(words, 3),
+            leg_in(words, 4),
+            leg_in(words, 5),
+            leg_in(words, 6),
+            leg_in(words, 7),
         ],
     }
 }
@@ -111,11 +149,11 @@ pub fn parts_in(book: &[u32], at: usize) -> [u32; 8]
 
 // Whether words are those of a question.
 pub fn says(words: &[u32], q: Question) -> bool
-    requires { ⌜ length (now words) ≡ 51 ⌝ }
+    requires { ⌜ length (now words) ≡ questionWidth ⌝ }
     ensures { λ r. ⌜ r ≡ same (now (words .entry)) (questionWords q) ⌝ }
 {
     let mut k = 0;
-    while k < 51 {
+    while k < QUESTION_WIDTH {
         if words[k] != question_word(q, k) {
             return false;
         }

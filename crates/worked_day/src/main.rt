@@ -1,6 +1,6 @@
 // A day of one till, sold from the bundle on standard input: a sale, the sale sent again, its cancellation, the sale sent again.
-use offers::Outcome;
 use offers::Leg;
+use offers::Outcome;
 use offers::Question;
 use offers::Receipt;
 use offers::Sum;

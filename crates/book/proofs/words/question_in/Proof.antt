@@ -6,14 +6,9 @@ use mathlib.Core.List.{[], _∷_}
 use native.Mathlib.Omega.{arith}
 use lib.ListN.{length, getD}
 use borrow.Author.Needs.{needs}
-use Rattle.fares.specs.declared.Leg.{Leg}
 use Rattle.book.specs.Words.{questionOf}
 use Rattle.book.proofs.words.question_in.Statement.{statement}
 use Rattle.book.proofs.words.question_in.Tie as tie
-
--- a leg by its two words
-leg : {r : Leg} {a b : ℕ} → (r .railway ≡ a) × (r .fare ≡ b) → r ≡ record { railway = a; fare = b }
-leg e = λ t. record { railway = e .0 t; fare = e .1 t }
 
 shared-slice-read-t3 : tie.Need-shared-slice-read-t3
 shared-slice-read-t3 c = search needs
@@ -52,7 +47,7 @@ leg-in-requires-7 : tie.Need-leg-in-requires-7
 leg-in-requires-7 c κs = search needs
 
 leg-in-requires-8 : tie.Need-leg-in-requires-8
-leg-in-requires-8 c κs = let w : length (c .before .before .before .before .before .before .before .before .before .before .before .before .before .args .words .now) ≡ 51 = c .before .before .before .before .before .before .before .before .before .before .before .before .before .pre in omega arith
+leg-in-requires-8 c κs = search needs
 
 returns : tie.Need-returns
 unfolding questionOf
@@ -65,7 +60,7 @@ returns c =
       persons = getD w 8 0;
       card = getD w 2 0;
       count = getD w 6 0;
-      legs = leg (c .before .before .before .before .before .before .before .leg-in .ensures) t ∷ leg (c .before .before .before .before .before .before .leg-in2 .ensures) t ∷ leg (c .before .before .before .before .before .leg-in3 .ensures) t ∷ leg (c .before .before .before .before .leg-in4 .ensures) t ∷ leg (c .before .before .before .leg-in5 .ensures) t ∷ leg (c .before .before .leg-in6 .ensures) t ∷ leg (c .before .leg-in7 .ensures) t ∷ leg (c .leg-in8 .ensures) t ∷ [];
+      legs = c .before .before .before .before .before .before .before .leg-in .ensures t ∷ c .before .before .before .before .before .before .leg-in2 .ensures t ∷ c .before .before .before .before .before .leg-in3 .ensures t ∷ c .before .before .before .before .leg-in4 .ensures t ∷ c .before .before .before .leg-in5 .ensures t ∷ c .before .before .leg-in6 .ensures t ∷ c .before .leg-in7 .ensures t ∷ c .leg-in8 .ensures t ∷ [];
     }
 
 pub question-in-spec : {M : Type 1} → statement M
