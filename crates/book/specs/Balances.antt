@@ -35,9 +35,14 @@ summed clean n = Amount n
 summed (fault k p d) n = Refused k p d
 
 -- "Balance of one railway (21, then 11), and total of all (21)"
+abbrev pub balanceChecks : List ℕ → ℕ → List Check
+balanceChecks w railway = check (not (soundWords w)) 21 0 0 ∷ check (not (between 1 9999 railway)) 11 0 0 ∷ []
+
+abbrev pub totalChecks : List ℕ → List Check
+totalChecks w = check (not (soundWords w)) 21 0 0 ∷ []
+
 unfoldable pub balanceAnswer : List ℕ → ℕ → Sum
-balanceAnswer w railway =
-    summed (firstFault (check (not (soundWords w)) 21 0 0 ∷ check (not (between 1 9999 railway)) 11 0 0 ∷ [])) (balanceOf (ofRailway railway) (entries w))
+balanceAnswer w railway = summed (firstFault (balanceChecks w railway)) (balanceOf (ofRailway railway) (entries w))
 
 unfoldable pub totalAnswer : List ℕ → Sum
-totalAnswer w = summed (firstFault (check (not (soundWords w)) 21 0 0 ∷ [])) (balanceOf ofAll (entries w))
+totalAnswer w = summed (firstFault (totalChecks w)) (balanceOf ofAll (entries w))

@@ -2,16 +2,18 @@
 -- Assumes nothing.
 use Prim.Native.Nat.{ℕ, zero, suc, _+_, _≤_, _<_, suc-le-suc}
 use mathlib.Core.Path.{_≡_, refl, sym, _∙_, ap}
-use mathlib.Core.Bool.{Bool, true, false, cond, _||_}
+use mathlib.Core.Bool.{Bool, true, false, cond, _&&_, _||_}
 use mathlib.Core.List.{List, [], _∷_, _++_, append-assoc}
 use native.Mathlib.Nat.{add-zero, le-of-suc-le-suc}
 use native.Mathlib.Omega.{arith}
 use native.Mathlib.Numerals.{add-one}
+use lib.Dec.{eqb}
 use lib.ListN.{length, getD, drop, drop-of-length-le}
 use lib.Seq.{drop-cons}
-use Rattle.common.specs.Lists.{any}
-use Rattle.common.specs.Checks.{Finding, clean, fault, Check, check, told, firstFault, eachFrom, AllPass, First}
-use Rattle.common.proofs.Tests.{either-false}
+use Rattle.common.specs.Lists.{every, any}
+use Rattle.common.specs.Checks.{Finding, clean, fault, Check, check, told, firstFault, eachFrom, AllPass, First, isAmong, TellsOf}
+use Rattle.common.proofs.Lists.{every-append}
+use Rattle.common.proofs.Tests.{both-true, either-false}
 
 -- what comes first where nothing was found before
 abbrev pub orElse : Finding → Finding → Finding
@@ -138,3 +140,21 @@ module _ {A : Type 0} (f : ℕ → A → List Check) (d : A) where
   clean-each i (x ∷ xs) g =
       clean-append (f i x) (eachFrom (i + 1) f xs) (rw add-zero at (g 0 (omega arith)))
       (clean-each (i + 1) xs (λ j l. let q : i + 1 + j ≡ i + suc j = omega arith in rw q (g (suc j) (suc-le-suc l))))
+
+-- THE NUMBERS that a list of checks can tell: those of its parts, and no fault tells another.
+module _ (ns : List ℕ) where
+  pub append-tells : (a b : List Check) → TellsOf ns a → TellsOf ns b → TellsOf ns (a ++ b)
+  append-tells a b e f = every-append (isAmong ns) a b ∙ rw (e, f)
+
+  pub each-tells : {A : Type 0} (f : ℕ → A → List Check) → ((i : ℕ) (x : A) → TellsOf ns (f i x)) → (i : ℕ) (xs : List A) → TellsOf ns (eachFrom i f xs)
+  unfolding eachFrom every
+  each-tells f g i [] = refl
+  each-tells f g i (x ∷ xs) = append-tells (f i x) (eachFrom (i + 1) f xs) (g i x) (each-tells f g (i + 1) xs)
+
+  pub first-among : (cs : List Check) → TellsOf ns cs → (k p d : ℕ) → First cs k p d → any (eqb k) ns ≡ true
+  unfolding every
+  first-among cs e k p d f =
+      let c = check true k p d in
+      let m : TellsOf ns (f .before ++ (c ∷ f .after)) = rw (← f .split) e in
+      let r = both-true (every (isAmong ns) (f .before)) (every (isAmong ns) (c ∷ f .after)) (sym (every-append (isAmong ns) (f .before) (c ∷ f .after)) ∙ m) in
+      both-true (isAmong ns c) (every (isAmong ns) (f .after)) (r .1) .0

@@ -4,7 +4,8 @@ use Prim.Native.Nat.{ℕ, _+_}
 use mathlib.Core.Path.{_≡_}
 use mathlib.Core.Bool.{Bool, true, false, cond}
 use mathlib.Core.List.{List, [], _∷_, _++_}
-use Rattle.common.specs.Lists.{any}
+use lib.Dec.{eqb}
+use Rattle.common.specs.Lists.{every, any}
 
 -- what a list of checks comes to: nothing fails, or the first that does, by its number, place and detail
 pub data Finding : Type 0 where
@@ -45,3 +46,10 @@ pub record First (cs : List Check) (k p d : ℕ) : Type 0 where
   pub after : List Check
   pub split : cs ≡ before ++ (check true k p d ∷ after)
   pub earlier-pass : AllPass before
+
+-- Each check of the list tells one of these numbers.
+abbrev pub isAmong : List ℕ → Check → Bool
+isAmong ns c = any (eqb (c .number)) ns
+
+abbrev pub TellsOf : List ℕ → List Check → Type 0
+TellsOf ns cs = every (isAmong ns) cs ≡ true

@@ -1,2 +1,3 @@
+pub mod Orders
 pub mod Figures
 pub mod Promises

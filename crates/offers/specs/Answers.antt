@@ -1,8 +1,13 @@
 -- What each answer tells, in the numbers and values of document 01, case by case. The promises and the calls for C use these.
 -- Assumes nothing.
 use Prim.Native.Nat.{ℕ}
-use mathlib.Core.List.{List, [], _∷_}
+use mathlib.Core.Path.{_≡_}
+use mathlib.Core.Bool.{true}
+use mathlib.Core.List.{List, [], _∷_, _++_}
+use lib.Dec.{eqb}
 use lib.ListN.{replicate}
+use Rattle.common.specs.Lists.{any}
+use Rattle.common.specs.Checks.{Check, AllPass, First}
 use Rattle.bundle.specs.declared.Judgement.{Judgement}
 use Rattle.bundle.specs.declared.Judgement.the-variants.{Accepted, Refused}
 use Rattle.fares.specs.declared.Quote.{Quote}
@@ -62,3 +67,33 @@ receiptTells r = outcomeTells (r .outcome) (r .parts)
 unfoldable pub sumTells : Sum → Told
 sumTells (Amount n) = answers (n ∷ [])
 sumTells (NoSum k p d) = refuses k p d (0 ∷ [])
+
+-- AN ANSWER FOLLOWS AN ORDER OF CHECKS: it is refused by the first that fails, with all n values zero, and by no other; where none fails it is
+-- answered with the values vs, and with no other.
+pub record Follows (t : Told) (cs : List Check) (n : ℕ) (vs : List ℕ) : Type 0 where
+  pub refused-by : (k p d : ℕ) (us : List ℕ) → t ≡ refuses k p d us → First cs k p d × (us ≡ replicate n 0)
+  pub first-refuses : (k p d : ℕ) → First cs k p d → t ≡ refuses k p d (replicate n 0)
+  pub answered-if : (us : List ℕ) → t ≡ answers us → AllPass cs × (us ≡ vs)
+  pub passing-answers : AllPass cs → t ≡ answers vs
+
+-- THE TABLE OF NUMBERS, by the calls that can give them.
+abbrev pub Among : List ℕ → ℕ → Type 0
+Among ns k = any (eqb k) ns ≡ true
+
+abbrev pub verdictNumbers : List ℕ
+verdictNumbers = 1 ∷ 2 ∷ 3 ∷ 4 ∷ 5 ∷ 6 ∷ 7 ∷ []
+
+abbrev pub fareNumbers : List ℕ
+fareNumbers = verdictNumbers ++ (11 ∷ 12 ∷ 13 ∷ 14 ∷ 15 ∷ 16 ∷ [])
+
+abbrev pub saleNumbers : List ℕ
+saleNumbers = fareNumbers ++ (21 ∷ 22 ∷ 23 ∷ 24 ∷ [])
+
+abbrev pub cancelNumbers : List ℕ
+cancelNumbers = 21 ∷ 22 ∷ 25 ∷ []
+
+abbrev pub balanceNumbers : List ℕ
+balanceNumbers = 21 ∷ 11 ∷ []
+
+abbrev pub totalNumbers : List ℕ
+totalNumbers = 21 ∷ []
