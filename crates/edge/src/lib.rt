@@ -1,29 +1,77 @@
-// The engine's calls for C: numbers and structs of numbers, no enums.
+// The engine's calls for C, as include/offers.h declares them: numbers and structs of numbers, no enums.
 ghost use mathlib.Core.Path.{_≡_};
+ghost use mathlib.Core.List.{_∷_};
 ghost use Rattle.bundle.specs.Verdict.{verdictOf};
-ghost use Rattle.edge.specs.Replies.{replyOf};
+ghost use Rattle.fares.specs.Fare.{fareOf};
+ghost use Rattle.book.specs.Sales.{saleAnswer, saleWords, cancelAnswer, cancelWords};
+ghost use Rattle.book.specs.Balances.{balanceAnswer, totalAnswer};
+ghost use Rattle.offers.specs.Answers.{answers, verdictTells, fareTells, receiptTells, sumTells};
+ghost use Rattle.edge.specs.Replies.{judgementReply, quoteReply, receiptReply, sumReply};
 use offers::Judgement;
+use offers::Outcome;
+use offers::Pricing;
+use offers::Question;
+use offers::Quote;
+use offers::Receipt;
+use offers::Sum;
 
-// A verdict: number 0 and the count of the records, or the number, place and detail of a refusal and no records.
+// Each reply has number, place and detail of a refusal, all 0 where there is none, and then the values.
 #[repr(C)]
-pub struct Reply {
+pub struct JudgementReply {
     pub number: u64,
     pub place: u64,
     pub detail: u64,
     pub records: u64,
 }
 
-fn reply_to(judgement: Judgement) -> Reply
-    ensures { λ r. ⌜ r ≡ replyOf judgement ⌝ }
+#[repr(C)]
+pub struct QuoteReply {
+    pub number: u64,
+    pub place: u64,
+    pub detail: u64,
+    pub fare: u64,
+    pub parts: [u32; 8],
+}
+
+#[repr(C)]
+pub struct ReceiptReply {
+    pub number: u64,
+    pub place: u64,
+    pub detail: u64,
+    pub outcome: u32,
+    pub cancelled: u32,
+    pub parts: [u32; 8],
+}
+
+#[repr(C)]
+pub struct SumReply {
+    pub number: u64,
+    pub place: u64,
+    pub detail: u64,
+    pub amount: u64,
+}
+
+const REFUSED: u32 = 0;
+
+const BOOKED: u32 = 1;
+
+const ALREADY_BOOKED: u32 = 2;
+
+const CANCELLED: u32 = 3;
+
+const ALREADY_CANCELLED: u32 = 4;
+
+fn flatten_judgement(judgement: Judgement) -> JudgementReply
+    ensures { λ r. ⌜ r ≡ judgementReply (verdictTells judgement) ⌝ }
 {
     match judgement {
-        Judgement::Accepted(records) => Reply {
+        Judgement::Accepted(records) => JudgementReply {
             number: 0,
             place: 0,
             detail: 0,
             records: records as u64,
         },
-        Judgement::Refused(number, place, detail) => Reply {
+        Judgement::Refused(number, place, detail) => JudgementReply {
             number: number as u64,
             place: place as u64,
             detail: detail as u64,
@@ -32,9 +80,129 @@ fn reply_to(judgement: Judgement) -> Reply
     }
 }
 
-#[no_mangle]
-pub extern "C" fn offers_verdict(bundle: &[u8]) -> Reply
-    ensures { λ r. ⌜ r ≡ replyOf (verdictOf (now (bundle .entry))) ⌝ }
+fn flatten_quote(quote: Quote) -> QuoteReply
+    ensures { λ r. ⌜ r ≡ quoteReply (fareTells quote) ⌝ }
 {
-    reply_to(offers::verdict(bundle))
+    let outcome = quote.outcome;
+    let fare = quote.fare;
+    let parts = quote.parts;
+    match outcome {
+        Pricing::Priced => QuoteReply {
+            number: 0,
+            place: 0,
+            detail: 0,
+            fare,
+            parts,
+        },
+        Pricing::Refused(number, place, detail) => QuoteReply {
+            number: number as u64,
+            place: place as u64,
+            detail: detail as u64,
+            fare,
+            parts,
+        },
+    }
+}
+
+fn answered(outcome: u32, cancelled: u32, parts: [u32; 8]) -> ReceiptReply
+    ensures { λ r. ⌜ r ≡ receiptReply (answers (outcome ∷ cancelled ∷ parts)) ⌝ }
+{
+    ReceiptReply {
+        number: 0,
+        place: 0,
+        detail: 0,
+        outcome,
+        cancelled,
+        parts,
+    }
+}
+
+fn flatten_receipt(receipt: Receipt) -> ReceiptReply
+    ensures { λ r. ⌜ r ≡ receiptReply (receiptTells receipt) ⌝ }
+{
+    let outcome = receipt.outcome;
+    let parts = receipt.parts;
+    match outcome {
+        Outcome::Booked => answered(BOOKED, 0, parts),
+        Outcome::AlreadyBooked(mark) => answered(ALREADY_BOOKED, mark, parts),
+        Outcome::Cancelled => answered(CANCELLED, 1, parts),
+        Outcome::AlreadyCancelled => answered(ALREADY_CANCELLED, 1, parts),
+        Outcome::Refused(number, place, detail) => ReceiptReply {
+            number: number as u64,
+            place: place as u64,
+            detail: detail as u64,
+            outcome: REFUSED,
+            cancelled: 0,
+            parts,
+        },
+    }
+}
+
+fn flatten_sum(sum: Sum) -> SumReply
+    ensures { λ r. ⌜ r ≡ sumReply (sumTells sum) ⌝ }
+{
+    match sum {
+        Sum::Amount(amount) => SumReply {
+            number: 0,
+            place: 0,
+            detail: 0,
+            amount,
+        },
+        Sum::Refused(number, place, detail) => SumReply {
+            number: number as u64,
+            place: place as u64,
+            detail: detail as u64,
+            amount: 0,
+        },
+    }
+}
+
+#[no_mangle]
+pub extern "C" fn offers_verdict(bundle: &[u8]) -> JudgementReply
+    ensures { λ r. ⌜ r ≡ judgementReply (verdictTells (verdictOf (now (bundle .entry)))) ⌝ }
+{
+    flatten_judgement(offers::verdict(bundle))
+}
+
+#[no_mangle]
+pub extern "C" fn offers_fare(bundle: &[u8], question: Question) -> QuoteReply
+    ensures { λ r. ⌜ r ≡ quoteReply (fareTells (fareOf (now (bundle .entry)) question)) ⌝ }
+{
+    flatten_quote(offers::fare(bundle, question))
+}
+
+#[no_mangle]
+pub extern "C" fn offers_sale(
+    book: &mut [u32],
+    bundle: &[u8],
+    till: u32,
+    sequence: u64,
+    question: Question,
+) -> ReceiptReply
+    ensures { λ r. ⌜ r ≡ receiptReply (receiptTells (saleAnswer (now (book .entry)) till sequence (now (bundle .entry)) question)) ⌝ }
+    ensures { λ r. ⌜ now (book .exit) ≡ saleWords (now (book .entry)) till sequence (now (bundle .entry)) question ⌝ }
+{
+    flatten_receipt(offers::sale(book, bundle, till, sequence, question))
+}
+
+#[no_mangle]
+pub extern "C" fn offers_cancel(book: &mut [u32], till: u32, sequence: u64) -> ReceiptReply
+    ensures { λ r. ⌜ r ≡ receiptReply (receiptTells (cancelAnswer (now (book .entry)) till sequence)) ⌝ }
+    ensures { λ r. ⌜ now (book .exit) ≡ cancelWords (now (book .entry)) till sequence ⌝ }
+{
+    flatten_receipt(offers::cancel(book, till, sequence))
+}
+
+#[no_mangle]
+pub extern "C" fn offers_balance(book: &[u32], railway: u32) -> SumReply
+    ensures { λ r. ⌜ r ≡ sumReply (sumTells (balanceAnswer (now (book .entry)) railway)) ⌝ }
+{
+    flatten_sum(offers::balance(book, railway))
+}
+
+#[no_mangle]
+pub extern "C" fn offers_total(book: &[u32]) -> SumReply
+    ensures { λ r. ⌜ r ≡ sumReply (sumTells (totalAnswer (now (book .entry)))) ⌝ }
+{
+    flatten_sum(offers::total(book))
 }
