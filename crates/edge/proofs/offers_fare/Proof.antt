@@ -1,20 +1,11 @@
 -- `edge::offers_fare` meets its contract: the answer of the front door, flattened.
 -- Assumes nothing.
-use mathlib.Core.Path.{_∙_, ap}
-use Rattle.offers.specs.Answers.{fareTells}
-use Rattle.edge.specs.Replies.{quoteReply}
 use borrow.Author.Needs.{needs}
 use Rattle.edge.proofs.offers_fare.Statement.{statement}
 use Rattle.edge.proofs.offers_fare.Tie as tie
 
-fare-requires : tie.Need-fare-requires
-fare-requires c κs = search needs
-
-flatten-quote-requires : tie.Need-flatten-quote-requires
-flatten-quote-requires c κs = search needs
-
 returns : tie.Need-returns
-returns c = c .flatten-quote .ensures ∙ ap (λ a. quoteReply (fareTells a)) (c .before .fare .ensures)
+returns c = cc
 
 pub offers-fare-spec : {M : Type 1} → statement M
-offers-fare-spec = tie.close (tie.spec fare-requires flatten-quote-requires returns)
+offers-fare-spec = tie.close (tie.spec (λ c κs. search needs) (λ c κs. search needs) returns)

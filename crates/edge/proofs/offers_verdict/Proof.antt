@@ -1,20 +1,11 @@
 -- `edge::offers_verdict` meets its contract: the answer of the front door, flattened.
 -- Assumes nothing.
-use mathlib.Core.Path.{_∙_, ap}
-use Rattle.offers.specs.Answers.{verdictTells}
-use Rattle.edge.specs.Replies.{judgementReply}
 use borrow.Author.Needs.{needs}
 use Rattle.edge.proofs.offers_verdict.Statement.{statement}
 use Rattle.edge.proofs.offers_verdict.Tie as tie
 
-verdict-requires : tie.Need-verdict-requires
-verdict-requires c κs = search needs
-
-flatten-judgement-requires : tie.Need-flatten-judgement-requires
-flatten-judgement-requires c κs = search needs
-
 returns : tie.Need-returns
-returns c = c .flatten-judgement .ensures ∙ ap (λ a. judgementReply (verdictTells a)) (c .before .verdict .ensures)
+returns c = cc
 
 pub offers-verdict-spec : {M : Type 1} → statement M
-offers-verdict-spec = tie.close (tie.spec verdict-requires flatten-judgement-requires returns)
+offers-verdict-spec = tie.close (tie.spec (λ c κs. search needs) (λ c κs. search needs) returns)
