@@ -1,5 +1,6 @@
--- `edge::flatten_judgement` meets its contract.
+-- `edge::flatten_judgement` meets its contract: each kind of answer has its own numbers.
 -- Assumes nothing.
+use mathlib.Core.Path.{refl}
 use Rattle.offers.specs.Answers.{verdictTells}
 use Rattle.edge.specs.Replies.{judgementReply}
 use borrow.Author.Needs.{needs}
@@ -17,11 +18,11 @@ cast-t8 c = search needs
 
 returns : tie.Need-returns
 unfolding verdictTells judgementReply
-returns c = rw (c .before .judgement .given .1)
+returns c = rw (c .before .judgement .given .1) refl
 
 returns-2 : tie.Need-returns-2
 unfolding verdictTells judgementReply
-returns-2 c = rw (c .before .judgement2 .given .1)
+returns-2 c = rw (c .before .judgement2 .given .1) refl
 
 pub flatten-judgement-spec : {M : Type 1} → statement M
 flatten-judgement-spec =

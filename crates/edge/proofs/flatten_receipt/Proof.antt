@@ -1,5 +1,6 @@
--- `edge::flatten_receipt` meets its contract.
+-- `edge::flatten_receipt` meets its contract: each kind of answer has its own numbers.
 -- Assumes nothing.
+use mathlib.Core.Path.{refl}
 use Rattle.offers.specs.Answers.{receiptTells, outcomeTells}
 use Rattle.edge.specs.Replies.{receiptReply}
 use borrow.Author.Needs.{needs}
@@ -54,7 +55,7 @@ returns-4 c = rw (c .before .enum-told3 .given .1) (c .answered4 .ensures)
 
 returns-5 : tie.Need-returns-5
 unfolding receiptTells outcomeTells receiptReply
-returns-5 c = rw (c .before .outcome2 .given .1)
+returns-5 c = rw (c .before .outcome2 .given .1) refl
 
 pub flatten-receipt-spec : {M : Type 1} → statement M
 flatten-receipt-spec =
