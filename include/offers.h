@@ -1,11 +1,15 @@
-/* The offer engine for C. Link with libedge.a (x86-64).
+/* The offer engine for C and C++. Link with libedge.a (x86-64 Linux), which needs no other library.
  *
- * Every call answers for every argument: it checks bundle, question and book itself, and reads and writes nothing outside
- * [pointer, pointer + length). A pointer may be NULL where its length is 0. What no call can check is that the memory is there,
- * aligned for its type, that a lent book is not lent twice at once, and that bundle and book do not overlap.
+ * Every call answers for every argument. It checks bundle, question and book itself, reads nothing but what it is lent, writes nothing
+ * but the book of a sale or a cancel, and keeps nothing between calls. What no call can check:
  *
- * `number` is 0 where a call is answered; otherwise it is refused, by one of the numbers below, `place` and `detail` say where, every
- * other value is 0, and no word of the book is changed. */
+ * - that behind each pointer lie as many bytes (bundle) or 32-bit words (book) as its length says. NULL will do where the length is 0;
+ * - that a book is aligned for uint32_t. A bundle may lie anywhere;
+ * - that nothing else writes to the bundle or the book while the call runs, or reads the book while a sale or a cancel runs, and that
+ *   the two do not overlap. Calls on different books may run at once.
+ *
+ * `number` is 0 where a call is answered. Otherwise it is refused, by one of the numbers below: `place` and `detail` say where, every
+ * other value is 0, and no word of the book is changed. Records, legs and entries count from 0. */
 #ifndef OFFERS_H
 #define OFFERS_H
 
@@ -16,7 +20,7 @@
 extern "C" {
 #endif
 
-/* The numbers of refusals: when; place, detail (0 where nothing is said). */
+/* The numbers of refusals: when; place, detail (0 where nothing is said). A call tells the first that it comes to. */
 enum offers_number {
     OFFERS_ANSWERED = 0,
     OFFERS_BUNDLE_TOO_LONG = 1,    /* the bundle has more than 1,048,576 bytes */
@@ -33,7 +37,7 @@ enum offers_number {
     OFFERS_CONDITION_UNREAD = 15,  /* a condition is set that the engine does not read; leg, field */
     OFFERS_FARE_TOO_HIGH = 16,     /* the fare is above 4,294,967,295 */
     OFFERS_BOOK_UNSOUND = 21,      /* the book is unsound */
-    OFFERS_NUMBER_LIMITS = 22,     /* till or sequence is 0 or too large */
+    OFFERS_NUMBER_LIMITS = 22,     /* till is not 1 to 65,535, or sequence not 1 to 4,294,967,295 */
     OFFERS_NUMBER_TAKEN = 23,      /* the sale number is held by another question; entry */
     OFFERS_BOOK_FULL = 24,         /* a new sale number, and 256 entries */
     OFFERS_SALE_UNKNOWN = 25       /* a cancel of an unknown sale number */
@@ -48,7 +52,7 @@ enum offers_outcome {
     OFFERS_ALREADY_CANCELLED = 4
 };
 
-/* The 32-bit words of a book. A new book is this many zeros; keep it as it stands between calls. */
+/* The words of a book: any other length is unsound. A new book is this many zeros; keep it as it stands between calls. */
 #define OFFERS_BOOK_WORDS 16385
 
 typedef struct {
@@ -61,7 +65,7 @@ typedef struct {
     uint32_t day;       /* YYYYMMDD, a real date of the years 1583 to 9999 */
     uint32_t persons;   /* 1 to 99 */
     uint32_t card;      /* 0 none, or 1 to 999 */
-    uint32_t count;     /* legs, 1 to 8; legs from there on are not looked at */
+    uint32_t count;     /* legs, 1 to 8; what stands in `legs` after them does not matter */
     offers_leg legs[8];
 } offers_question;
 
@@ -79,7 +83,7 @@ typedef struct {
 typedef struct {
     uint64_t number, place, detail;
     uint32_t outcome;   /* enum offers_outcome */
-    uint32_t cancelled; /* 1 if the sale is now cancelled */
+    uint32_t cancelled; /* 1 if the sale is cancelled now, else 0 */
     uint32_t parts[8];  /* as priced at the first booking */
 } offers_receipt;
 
@@ -88,14 +92,14 @@ typedef struct {
     uint64_t amount; /* in cents */
 } offers_sum;
 
-/* Judges a bundle: 1 to 7, or the count of its records. */
+/* Judges a bundle, of any length: 1 to 7, or the count of its records. */
 offers_judgement offers_verdict(const uint8_t *bundle, size_t length);
 
-/* Prices a ticket: 1 to 7, 11, the legs from the first each for 12 to 15, 16. */
+/* Prices a ticket: 1 to 7, 11, then the legs from the first, each for 12 to 15, then 16. */
 offers_quote offers_fare(const uint8_t *bundle, size_t length, offers_question question);
 
-/* Books a sale: 21, 22, 23 if the number is held by another question, 24, then as offers_fare. The same question under a booked
- * number is answered OFFERS_ALREADY_BOOKED with its first parts, whatever the bundle. */
+/* Books a sale under its number, till and sequence: 21, 22, 23, 24, then as offers_fare. The same question under a number that is in the
+ * book is OFFERS_ALREADY_BOOKED, with its first parts and whatever the bundle: a till that got no answer sends its sale again. */
 offers_receipt offers_sale(uint32_t *book, size_t words, const uint8_t *bundle, size_t length, uint32_t till, uint64_t sequence,
                            offers_question question);
 
