@@ -198,6 +198,10 @@ module _ (w : List ℕ) (t s : ℕ) (b : List ℕ) (q : Question) where
         let l = one-clean (leb capacity (length (entries w))) 24 0 0 (fareChecks b q) c .0 in
         (not-false (soundWords w) (a .0), not-false (numberInLimits t s) (n .0), rw (entries-length w) at (leb-false capacity (length (entries w)) l))
 
+    pub booked-parts : saleAnswer w t s b q .parts ≡ partsOf (recordsOf b) q
+    unfolding saleAnswer
+    booked-parts = rw (told .0, told .1)
+
     pub booked-writes : saleWords w t s b q ≡ added w t s (booking t s q (saleAnswer w t s b q .parts))
     unfolding saleAnswer saleWords isBooked
     booked-writes = rw (told .0, told .1)

@@ -1,3 +1,4 @@
+pub mod Grants
 pub mod Fit
 pub mod RoundLaws
 pub mod StepLaws

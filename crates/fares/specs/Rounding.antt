@@ -4,6 +4,7 @@
 use Prim.Native.Nat.{ℕ, _+_, _-_, _*_, _/_, _≤_}
 use mathlib.Core.Path.{_≡_}
 use mathlib.Core.Bool.{Bool, cond}
+use mathlib.Core.Logic.{_⊎_}
 use lib.Dec.{eqb}
 use Rattle.layout.specs.Bytes.{byte-plus, byte-minus, byte-0, byte-N}
 
@@ -48,3 +49,9 @@ pub record IsNear (n f r : ℕ) : Type 0 where
   pub multiple : (k : ℕ) × (r ≡ k * f)
   pub near : (k : ℕ) → apart (r * unit) n ≤ apart (k * f * unit) n
   pub halves-up : (k : ℕ) → apart (r * unit) n ≡ apart (k * f * unit) n → k * f ≤ r
+
+-- what the rounding byte of a record asks for
+abbrev pub IsRounded : ℕ → ℕ → ℕ → ℕ → Type 0
+IsRounded mode n f r =
+    ((mode ≡ byte-plus) × IsUp n f r)
+    ⊎ (((mode ≡ byte-minus) × IsDown n f r) ⊎ (((mode ≡ byte-0) × IsNear n f r) ⊎ ((mode ≡ byte-N) × IsNear n 1 r)))

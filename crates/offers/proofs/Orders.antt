@@ -1,7 +1,7 @@
 -- Each answer follows its order of checks, and tells only the numbers of its call.
 -- Assumes nothing.
 use Prim.Native.Nat.{ℕ}
-use mathlib.Core.Path.{_≡_, refl, sym, _∙_}
+use mathlib.Core.Path.{_≡_, refl, sym, _∙_, ap}
 use mathlib.Core.Bool.{Bool, true, false, cond}
 use mathlib.Core.List.{List, [], _∷_, _++_}
 use native.Mathlib.Omega.{arith}
@@ -12,6 +12,8 @@ use Rattle.common.specs.Checks.{Finding, clean, fault, Check, check, firstFault
 use Rattle.common.proofs.Checks.{clean-means, means-clean, fault-means, means-fault, append-tells, each-tells, first-among}
 use Rattle.bundle.specs.Records.{Rec, restOf, recordsOf}
 use Rattle.bundle.specs.Verdict.{fieldChecks, endChecks, firstPass, recordChecks, secondPass, checks, judged, verdictOf}
+use Rattle.bundle.specs.declared.Judgement.{Judgement}
+use Rattle.bundle.specs.declared.Judgement.the-variants.{Accepted, Refused}
 use Rattle.fares.specs.Question.{legsOf}
 use Rattle.fares.specs.Legs.{legChecks}
 use Rattle.fares.specs.Fare.{partsOf, priceChecks, fareChecks, quoted, fareOf}
@@ -20,7 +22,8 @@ use Rattle.book.specs.Words.{capacity, entries}
 use Rattle.book.specs.Sales.{unlessFault, receipt, isPresent, present, saleChecks, saleAnswer, cancelChecks, cancelAnswer}
 use Rattle.book.specs.Balances.{ofRailway, ofAll, balanceOf, summed, balanceChecks, totalChecks, balanceAnswer, totalAnswer}
 use Rattle.book.specs.declared.Receipt.{Receipt}
-use Rattle.book.specs.declared.Outcome.the-variants.{Booked, AlreadyBooked, Cancelled, AlreadyCancelled}
+use Rattle.book.specs.declared.Outcome.{Outcome}
+use Rattle.book.specs.declared.Outcome.the-variants.{Booked, AlreadyBooked, Cancelled, AlreadyCancelled, Refused as NoEntry}
 use Rattle.offers.specs.Answers.{Told, answers, refuses, verdictTells, pricingTells, fareTells, booked, alreadyBooked, cancelled, alreadyCancelled, outcomeTells, receiptTells, sumTells, Follows}
 use Rattle.offers.specs.Answers.{verdictNumbers, fareNumbers, saleNumbers, cancelNumbers, balanceNumbers, totalNumbers, Among}
 
@@ -162,3 +165,29 @@ total-numbers w = refl
 pub refused-among : {t : Told} {cs : List Check} {n : ℕ} {vs : List ℕ} (ns : List ℕ) → Follows t cs n vs → TellsOf ns cs
     → (k p d : ℕ) (us : List ℕ) → t ≡ refuses k p d us → Among ns k
 refused-among {cs = cs} ns f e k p d us h = first-among ns cs e k p d (f .refused-by k p d us h .0)
+
+-- What is told tells the answer.
+pub told-accepted : (j : Judgement) (n : ℕ) → verdictTells j ≡ answers (n ∷ []) → j ≡ Accepted n
+unfolding verdictTells
+told-accepted (Accepted m) n e = let x : m ≡ n = cc in rw x
+told-accepted (Refused k p d) n e = let z : _≡_ {A = ℕ} 0 1 = cc in absurd (omega arith)
+
+outcome-booked : (o : Outcome) (ps parts : List ℕ) → outcomeTells o ps ≡ answers (booked ∷ 0 ∷ parts) → (o ≡ Booked) × (ps ≡ parts)
+unfolding outcomeTells
+outcome-booked Booked ps parts e = (refl, cc)
+outcome-booked (AlreadyBooked mark) ps parts e = let z : alreadyBooked ≡ booked = cc in absurd (omega (arith, z))
+outcome-booked Cancelled ps parts e = let z : cancelled ≡ booked = cc in absurd (omega (arith, z))
+outcome-booked AlreadyCancelled ps parts e = let z : alreadyCancelled ≡ booked = cc in absurd (omega (arith, z))
+outcome-booked (NoEntry k p d) ps parts e = let z : _≡_ {A = ℕ} 0 1 = cc in absurd (omega arith)
+
+pub told-booked : (r : Receipt) (parts : List ℕ) → receiptTells r ≡ answers (booked ∷ 0 ∷ parts) → (r .outcome ≡ Booked) × (r .parts ≡ parts)
+unfolding receiptTells
+told-booked r parts e = outcome-booked (r .outcome) (r .parts) parts e
+
+pub booked-told : (r : Receipt) → r .outcome ≡ Booked → receiptTells r ≡ answers (booked ∷ 0 ∷ r .parts)
+unfolding receiptTells outcomeTells
+booked-told r e = ap (λ (o : Outcome). outcomeTells o (r .parts)) e
+
+pub cancelled-told : (r : Receipt) → r .outcome ≡ Cancelled → receiptTells r ≡ answers (cancelled ∷ 1 ∷ r .parts)
+unfolding receiptTells outcomeTells
+cancelled-told r e = ap (λ (o : Outcome). outcomeTells o (r .parts)) e
