@@ -1,14 +1,13 @@
 -- The words of an entry as a part of the book's, and the entries in use.
 -- Assumes nothing.
-use Prim.Native.Nat.{ℕ, zero, suc, _+_, _*_, _≤_, _<_}
-use mathlib.Core.Path.{_≡_, refl, sym, _∙_, ap}
+use Prim.Native.Nat.{ℕ, _+_, _*_, _≤_, _<_}
+use mathlib.Core.Path.{_≡_, sym, _∙_, ap}
 use mathlib.Core.List.{List, [], _∷_, _++_, append-assoc}
 use native.Mathlib.Nat.{add-zero}
 use native.Mathlib.Omega.{arith}
 use lib.ListN.{length, getD, take, drop, set, length-append, length-drop, take-append-drop}
 use lib.Seq.{getD-take, getD-drop, drop-cons, drop-drop, drop-set-lt, drop-set-add, take-set-lt, take-set-le, getD-set-same, getD-set-other, drop-append-le, take-append-le, take-at, drop-at, take-all, length-take-le, paste, drop-paste, length-paste}
-use Rattle.common.specs.Lists.{upTo}
-use Rattle.book.specs.Words.{Entry, entryOf, entryAt, wordsOf, width, questionWidth}
+use Rattle.book.specs.Words.{Entry, entryOf, wordsOf, width, questionWidth}
 
 -- word k of entry i
 pub word-at : (w : List ℕ) (i k : ℕ) → k < width → getD (take width (drop (1 + i * width) w)) k 0 ≡ getD w (1 + i * width + k) 0

@@ -2,7 +2,7 @@
 -- Assumes nothing.
 use Prim.Native.Nat.{ℕ, zero, suc, _+_, _-_, _*_, _≤_, _<_}
 use mathlib.Core.Path.{_≡_, refl, sym, _∙_, ap, ap₂}
-use mathlib.Core.Bool.{Bool, true, false, _&&_}
+use mathlib.Core.Bool.{Bool, true}
 use mathlib.Core.List.{List, [], _∷_, _++_}
 use mathlib.Core.Logic.{_⊎_, inl, inr, ⊎-elim}
 use native.Mathlib.Omega.{arith}
@@ -10,7 +10,7 @@ use lib.Dec.{eqb, leb}
 use lib.ListN.{length, getD, drop, set, length-set, length-take, length-drop}
 use lib.Seq.{ext-getD, getD-set-same, getD-set-other, drop-set-lt, drop-drop, paste}
 use borrow.Author.Tests.{eqb-true, leb-true, eq-eqb, le-leb}
-use Rattle.common.specs.Lists.{every, upTo}
+use Rattle.common.specs.Lists.{every}
 use Rattle.common.proofs.Tests.{order, both-true}
 use Rattle.common.proofs.Lists.{every-at, upto-length, upto-at, upto-same, upto-more}
 use Rattle.book.specs.Words.{Entry, noEntry, entryOf, entryAt, capacity, width, questionWidth, bookLength, countOf, entries, wordsOf}

@@ -8,13 +8,13 @@ use native.Mathlib.Omega.{arith}
 use mathlib.Core.Logic.{⊎-elim}
 use types.Run.{OneOf}
 use denote.Enum.Declared.{tagOf}
-use lib.Dec.{eqb, leb, ltb}
+use lib.Dec.{eqb, leb}
 use lib.ListN.{length, getD, take, drop, set}
 use lib.Seq.{take-take, drop-drop}
-use borrow.Author.Tests.{lt-ltb, le-ltb, le-leb, lt-leb, eq-eqb, ne-eqb, leb-true, leb-false, ltb-true, not-false}
+use borrow.Author.Tests.{lt-ltb, le-ltb, le-leb, lt-leb, leb-true, leb-false, ltb-true, not-false}
 use Rattle.common.specs.Least.{least}
 use Rattle.common.specs.Lists.{same}
-use Rattle.common.specs.Checks.{Finding, clean, fault, Check, check, firstFault}
+use Rattle.common.specs.Checks.{Finding, clean, fault, check, firstFault}
 use Rattle.common.proofs.Tests.{both-true}
 use Rattle.common.proofs.Checks.{one-clean}
 use Rattle.common.proofs.Least.{alike}
@@ -27,11 +27,11 @@ use Rattle.book.specs.Words.{Entry, noEntry, entryAt, capacity, width, c
 use Rattle.book.specs.Sound.{numberInLimits, sameNumber, placeOf, soundWords}
 use Rattle.book.specs.Sales.{refusal, receipt, unlessFault, isClean, place, isPresent, present, saleChecks, saleAnswer, isBooked, added, saleWords, cancelChecks, cancelAnswer, isCancelled, cancelWords, againAnswer, firstAnswer}
 use Rattle.book.specs.declared.Outcome.{Outcome}
-use Rattle.book.specs.declared.Outcome.the-variants.{Booked, AlreadyBooked, Cancelled, AlreadyCancelled, Refused}
+use Rattle.book.specs.declared.Outcome.the-variants.{Booked, AlreadyBooked, Cancelled, AlreadyCancelled}
 use Rattle.book.specs.declared.Receipt.{Receipt}
 use Rattle.book.proofs.Outcome.{the-type}
 use Rattle.book.proofs.Blocks.{block}
-use Rattle.book.proofs.EntryLaws.{IsSound, is-sound, entry-is, entries-length}
+use Rattle.book.proofs.EntryLaws.{entry-is, entries-length}
 
 -- some words of an entry, as words of the book
 pub sub-block : (w : List ℕ) (i k m : ℕ) → k + m ≤ width → take m (drop k (block w i)) ≡ take m (drop (1 + i * width + k) w)

@@ -1,29 +1,29 @@
 -- A sound book stays sound: an entry that may be added leaves it so, and a mark set.
 -- Assumes nothing.
-use Prim.Native.Nat.{ℕ, zero, suc, _+_, _-_, _*_, _≤_, _<_}
-use mathlib.Core.Path.{_≡_, refl, sym, _∙_, ap, ap₂}
-use mathlib.Core.Bool.{Bool, true, false, cond, _&&_, and-true}
+use Prim.Native.Nat.{ℕ, zero, suc, _+_, _-_, _≤_, _<_}
+use mathlib.Core.Path.{_≡_, refl, sym, _∙_}
+use mathlib.Core.Bool.{Bool, true, false, cond}
 use mathlib.Core.List.{List, [], _∷_, _++_, map}
 use mathlib.Core.Logic.{_⊎_, inl, inr, ⊎-elim}
 use native.Mathlib.Omega.{arith}
-use lib.Dec.{eqb, leb, ltb}
-use lib.ListN.{length, getD, drop, set, replicate, length-append, length-map, List·getD-append, length-set}
-use lib.Seq.{ext-getD, getD-at, getD-set-same, getD-set-other, drop-at, length-take-le}
-use borrow.Author.Tests.{eqb-true, eq-eqb, ne-eqb, le-leb, lt-ltb, le-ltb, ltb-false, ltb-true, leb-true}
+use lib.Dec.{eqb, leb}
+use lib.ListN.{length, getD, drop, set, length-append, length-map, List·getD-append, length-set}
+use lib.Seq.{ext-getD, getD-at, getD-set-same, getD-set-other}
+use borrow.Author.Tests.{eqb-true, eq-eqb}
 use Rattle.common.specs.Least.{least}
-use Rattle.common.specs.Lists.{every, upTo}
+use Rattle.common.specs.Lists.{every}
 use Rattle.common.proofs.Tests.{order, side, never, both-true}
-use Rattle.common.proofs.Least.{none, before, passes, within, finds-none, none-finds}
+use Rattle.common.proofs.Least.{none, before, passes, finds-none, none-finds}
 use Rattle.common.proofs.Lists.{every-at, every-append}
 use Rattle.fares.specs.Question.{inLimits}
 use Rattle.fares.specs.Reductions.{partBound}
 use Rattle.fares.specs.declared.Question.{Question}
-use Rattle.book.specs.Words.{Entry, noEntry, entryAt, capacity, width, questionWidth, countOf, entries, questionOf, questionWords, booking}
-use Rattle.book.specs.Sound.{isZero, numberInLimits, askedSound, entrySound, sameNumber, placeOf, repeats, numbersDiffer, soundWords}
+use Rattle.book.specs.Words.{Entry, noEntry, capacity, questionWidth, countOf, entries, questionOf, booking}
+use Rattle.book.specs.Sound.{isZero, numberInLimits, askedSound, entrySound, sameNumber, placeOf, repeats, numbersDiffer}
 use Rattle.book.specs.Sales.{added}
 use Rattle.book.proofs.Blocks.{marked}
-use Rattle.book.proofs.EntryLaws.{IsSound, is-sound, sound-is, entry-is, entries-length, entries-marked, added-count, entries-added, added-long, added-clear}
-use Rattle.book.proofs.QuestionLaws.{words-length, said-count, asked-sound}
+use Rattle.book.proofs.EntryLaws.{IsSound, added-count, entries-added, added-long, added-clear}
+use Rattle.book.proofs.QuestionLaws.{said-count, asked-sound}
 
 -- NUMBERS DIFFER: of two entries, a later one never has the number of an earlier one
 pub apart : (es : List Entry) → numbersDiffer es ≡ true → (i j : ℕ) → i < length es → j < i
@@ -100,9 +100,6 @@ pub mapped-at : (g : Entry → Entry) (es : List Entry) (i : ℕ) → i < length
 mapped-at g [] i l = absurd (omega arith)
 mapped-at g (e ∷ es) zero l = refl
 mapped-at g (e ∷ es) (suc i) l = mapped-at g es i (omega arith)
-
-cancelled-at : (t s : ℕ) (e : Entry) (b : Bool) → sameNumber t s e ≡ b → cancelling t s e ≡ cond b (marked e) e
-cancelled-at t s e b h = rw h
 
 -- the numbers stay
 same-till : (b : Bool) (e : Entry) → cond b (marked e) e .till ≡ e .till

@@ -1,22 +1,21 @@
 -- DEMAND 3, proved: after any history from the empty book the balance is what the history alone tells.
 -- Assumes nothing.
-use Prim.Native.Nat.{ℕ, zero, suc, _+_, _*_, _≤_, _<_}
-use mathlib.Core.Path.{_≡_, refl, sym, _∙_, ap, ap₂}
-use mathlib.Core.Bool.{Bool, true, false, cond, not, _&&_, _||_}
+use Prim.Native.Nat.{ℕ, _+_, _*_}
+use mathlib.Core.Path.{_≡_, refl, _∙_, ap₂}
+use mathlib.Core.Bool.{Bool, true, false, cond, _||_}
 use mathlib.Core.List.{List, [], _∷_, _++_, map, map-append}
 use native.Mathlib.Omega.{arith}
-use lib.Dec.{eqb}
-use lib.ListN.{length, getD, drop, replicate, length-replicate, getD-replicate}
+use lib.ListN.{replicate, length-replicate, getD-replicate}
 use Rattle.common.specs.Lists.{sum, every, upTo}
 use Rattle.common.proofs.Sums.{sum-append}
 use Rattle.bundle.specs.Records.{recordsOf}
 use Rattle.fares.specs.Fare.{partsOf}
 use Rattle.fares.specs.declared.Question.{Question}
-use Rattle.book.specs.Words.{Entry, noEntry, entries, countOf, width, bookLength, questionWords, booking}
-use Rattle.book.specs.Sound.{isZero, sameNumber, numbersDiffer, soundWords, entrySound}
+use Rattle.book.specs.Words.{Entry, entries, countOf, width, bookLength, booking}
+use Rattle.book.specs.Sound.{isZero, sameNumber, numbersDiffer, soundWords}
 use Rattle.book.specs.Sales.{saleWords, cancelWords}
 use Rattle.book.specs.Balances.{liveAmount, balanceOf}
-use Rattle.book.specs.History.{Number, Op, sale, cancel, emptyBook, after, isNumber, cancelledIn, books, owed}
+use Rattle.book.specs.History.{Number, Op, sale, cancel, emptyBook, after, cancelledIn, books, owed}
 use Rattle.book.proofs.Blocks.{marked}
 use Rattle.common.specs.Least.{least}
 use Rattle.book.proofs.EntryLaws.{IsSound, sound-is, every-drop}

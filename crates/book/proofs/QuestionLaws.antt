@@ -1,23 +1,19 @@
 -- A question and its words: what the words say is the question again, with zeros in the slots that are not asked.
 -- Assumes nothing.
 use Prim.Native.Nat.{ℕ, zero, suc, _+_, _-_, _*_, _/_, _%_, _≤_, _<_}
-use mathlib.Core.Path.{_≡_, refl, sym, _∙_, ap, ap₂}
+use mathlib.Core.Path.{_≡_, refl, sym, _∙_}
 use mathlib.Core.Bool.{Bool, true, false, cond, _&&_}
-use mathlib.Core.List.{List, [], _∷_}
-use mathlib.Core.Logic.{⊎-elim}
+use mathlib.Core.List.{List}
 use native.Mathlib.Omega.{arith}
-use lib.Dec.{eqb, ltb}
+use lib.Dec.{ltb}
 use lib.ListN.{length, getD}
 use lib.Seq.{ext-getD}
-use borrow.Author.Tests.{lt-ltb, le-ltb, ne-eqb, leb-true}
-use Rattle.common.specs.Lists.{every, upTo, firstOf, same}
-use Rattle.common.proofs.Tests.{both-true}
-use Rattle.common.proofs.Lists.{every-at, upto-length, upto-at, upto-same, first-length, first-at, is-same}
-use Rattle.layout.specs.Dates.{isDay}
+use borrow.Author.Tests.{lt-ltb, le-ltb, ne-eqb}
+use Rattle.common.proofs.Lists.{upto-length, upto-at, upto-same, first-length, first-at, is-same}
 use Rattle.fares.specs.Question.{noLeg, legsOf, inLimits}
 use Rattle.fares.specs.declared.Leg.{Leg}
 use Rattle.fares.specs.declared.Question.{Question}
-use Rattle.fares.proofs.FareLaws.{Asked, asked}
+use Rattle.fares.proofs.FareLaws.{asked}
 use Rattle.book.specs.Words.{legAt, legWord, legOf, questionWord, questionWords, questionOf, questionWidth}
 use Rattle.book.specs.Sound.{askedSound}
 

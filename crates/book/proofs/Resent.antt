@@ -1,12 +1,11 @@
 -- DEMAND 3, its second half: a sale that is sent again is told its first amounts and changes nothing, and a number used again for another sale is
 -- refused; cancelled or not, after any history.
 -- Assumes nothing.
-use Prim.Native.Nat.{ℕ, zero, suc, _+_, _*_, _≤_, _<_}
+use Prim.Native.Nat.{ℕ, _+_, _<_}
 use mathlib.Core.Path.{_≡_, refl, sym, _∙_, ap, ap₂}
-use mathlib.Core.Bool.{Bool, true, false, cond, not, _&&_, _||_, and-false}
-use mathlib.Core.List.{List, [], _∷_, _++_, map}
+use mathlib.Core.Bool.{Bool, true, false, cond, _||_, and-false}
+use mathlib.Core.List.{List, [], _∷_, _++_}
 use native.Mathlib.Omega.{arith}
-use lib.Dec.{eqb, ltb}
 use lib.ListN.{length, getD, length-append, length-map, List·getD-append}
 use lib.Seq.{getD-at}
 use borrow.Author.Tests.{eq-eqb}
@@ -14,13 +13,13 @@ use Rattle.common.specs.Lists.{same}
 use Rattle.bundle.specs.Records.{recordsOf}
 use Rattle.fares.specs.Fare.{partsOf}
 use Rattle.fares.specs.declared.Question.{Question}
-use Rattle.book.specs.Words.{Entry, noEntry, entries, countOf, questionWords, booking}
-use Rattle.book.specs.Sound.{sameNumber, numberInLimits, placeOf, soundWords}
+use Rattle.book.specs.Words.{Entry, noEntry, entries, questionWords, booking}
+use Rattle.book.specs.Sound.{sameNumber}
 use Rattle.book.specs.Sales.{isPresent, present, place, saleAnswer, saleWords, cancelWords, isBooked, againAnswer, receipt, refusal}
 use Rattle.book.specs.declared.Outcome.the-variants.{Booked, AlreadyBooked}
 use Rattle.book.specs.History.{Number, Op, sale, cancel, emptyBook, after, cancelledIn, books}
 use Rattle.book.proofs.Blocks.{marked}
-use Rattle.book.proofs.EntryLaws.{IsSound, sound-is, entries-length, entry-is}
+use Rattle.book.proofs.EntryLaws.{IsSound, sound-is}
 use Rattle.book.proofs.Kept.{cancelling, mapped-at}
 use Rattle.book.proofs.SaleLaws.{numberOf, numbersOf, books-is, not-booked, sale-entries, sale-sound, cancel-after, books-number, at-place}
 use Rattle.book.proofs.Owed.{stays-sound, empty-sound}

@@ -1,37 +1,37 @@
 -- What a sale and a cancellation do to a sound book's entries.
 -- Assumes nothing.
 use Prim.Native.Nat.{ℕ, zero, suc, _+_, _-_, _*_, _≤_, _<_}
-use mathlib.Core.Path.{_≡_, refl, sym, _∙_, ap, ap₂}
+use mathlib.Core.Path.{_≡_, refl, sym, _∙_, ap}
 use mathlib.Core.Bool.{Bool, true, false, cond, not, _&&_, _||_}
 use mathlib.Core.List.{List, [], _∷_, _++_, map}
-use mathlib.Core.Logic.{_⊎_, inl, inr, ⊎-elim}
+use mathlib.Core.Logic.{_⊎_, ⊎-elim}
 use native.Mathlib.Omega.{arith}
 use lib.Dec.{eqb, leb, ltb}
 use lib.ListN.{length, getD, drop, set, replicate, length-append, length-map, length-replicate, length-set}
 use lib.Seq.{drop-at, drop-set-lt, getD-set-other}
-use borrow.Author.Tests.{eqb-true, eqb-false, eq-eqb, ne-eqb, le-leb, lt-leb, lt-ltb, le-ltb, ltb-false, ltb-true, leb-true, not-true, not-false}
+use borrow.Author.Tests.{eqb-true, le-leb, lt-leb, lt-ltb, le-ltb, ltb-false, ltb-true, leb-true, not-true, not-false}
 use Rattle.common.specs.Least.{least}
 use Rattle.common.specs.Lists.{every, any, same}
 use Rattle.common.specs.Checks.{Finding, clean, fault, Check, check, firstFault}
-use Rattle.common.proofs.Tests.{order, side, never, both-true}
+use Rattle.common.proofs.Tests.{side, never, both-true}
 use Rattle.common.proofs.Least.{within, before}
 use Rattle.common.proofs.Lists.{every-at, every-append, any-least, first-length}
 use Rattle.common.proofs.Sums.{map-at}
 use Rattle.common.proofs.Checks.{append-clean, one-clean}
-use Rattle.bundle.specs.Records.{Rec, recordsOf}
+use Rattle.bundle.specs.Records.{recordsOf}
 use Rattle.bundle.specs.Verdict.{checks}
 use Rattle.fares.specs.Question.{noLeg, legsOf, inLimits}
 use Rattle.fares.specs.Reductions.{partBound}
 use Rattle.fares.specs.Legs.{partOf}
 use Rattle.fares.specs.Fare.{partsOf, priceChecks, fareChecks}
 use Rattle.fares.specs.declared.Question.{Question}
-use Rattle.fares.proofs.FareLaws.{Asked, asked, part-small}
-use Rattle.book.specs.Words.{Entry, noEntry, entryAt, capacity, width, countOf, entries, questionWords, booking}
-use Rattle.book.specs.Sound.{isZero, numberInLimits, entrySound, sameNumber, placeOf, numbersDiffer, soundWords}
+use Rattle.fares.proofs.FareLaws.{asked, part-small}
+use Rattle.book.specs.Words.{Entry, noEntry, capacity, width, countOf, entries, questionWords, booking}
+use Rattle.book.specs.Sound.{isZero, numberInLimits, entrySound, sameNumber, placeOf}
 use Rattle.book.specs.Sales.{isClean, place, isPresent, present, saleChecks, isBooked, added, saleWords, cancelChecks, isCancelled, cancelWords}
-use Rattle.book.specs.History.{Number, isNumber, isIn, books}
+use Rattle.book.specs.History.{Number, isIn, books}
 use Rattle.book.proofs.Blocks.{marked}
-use Rattle.book.proofs.EntryLaws.{IsSound, is-sound, sound-is, entry-is, entries-length, entries-marked, entries-added}
+use Rattle.book.proofs.EntryLaws.{IsSound, sound-is, entry-is, entries-length, entries-marked, entries-added}
 use Rattle.book.proofs.QuestionLaws.{words-length}
 use Rattle.book.proofs.Kept.{cancelling, booking-sound, added-sound, passed, set-is-map, none-cancelled, marked-keeps, only-place}
 

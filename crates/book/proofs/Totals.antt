@@ -2,27 +2,26 @@
 -- Assumes nothing.
 use Prim.Native.Nat.{ℕ, zero, suc, _+_, _-_, _*_, _≤_, _<_}
 use mathlib.Core.Path.{_≡_, refl, sym, _∙_, ap, ap₂}
-use mathlib.Core.Bool.{Bool, true, false, cond, _&&_}
-use mathlib.Core.List.{List, [], _∷_, _++_, map}
+use mathlib.Core.Bool.{Bool, true, false, cond}
+use mathlib.Core.List.{List, [], _∷_, _++_}
 use mathlib.Core.Logic.{_⊎_, inl, inr, ⊎-elim}
-use native.Mathlib.Nat.{le-of-suc-le-suc}
 use native.Mathlib.Omega.{arith}
 use lib.Dec.{eqb, leb}
-use lib.ListN.{length, getD, take, drop}
+use lib.ListN.{getD, drop}
 use lib.Seq.{getD-drop}
 use borrow.Author.Tests.{eq-eqb, ne-eqb, eqb-true, leb-true}
-use Rattle.common.specs.Lists.{sum, every, upTo, firstOf}
-use Rattle.common.proofs.Tests.{side, order, both-true}
+use Rattle.common.specs.Lists.{sum, every, upTo}
+use Rattle.common.proofs.Tests.{side, both-true}
 use Rattle.common.proofs.Lists.{every-at, upto-same, first-length, first-at}
-use Rattle.common.proofs.Sums.{sum-append, sum-up}
+use Rattle.common.proofs.Sums.{sum-append}
 use Rattle.fares.specs.Question.{noLeg, legsOf, legInLimits, between, inLimits, limitsOf}
 use Rattle.fares.specs.declared.Question.{Question}
 use Rattle.fares.proofs.FareLaws.{asked as asked-of}
-use Rattle.book.specs.Words.{Entry, noEntry, entries, questionOf, legOf}
-use Rattle.book.specs.Sound.{isZero, askedSound, entrySound, soundWords}
+use Rattle.book.specs.Words.{Entry, entries, questionOf, legOf}
+use Rattle.book.specs.Sound.{isZero, entrySound, soundWords}
 use Rattle.book.specs.Balances.{legPart, ofRailway, ofAll, liveAmount, balanceOf}
 use Rattle.book.proofs.Kept.{passed}
-use Rattle.book.proofs.EntryLaws.{IsSound, is-sound}
+use Rattle.book.proofs.EntryLaws.{is-sound}
 use Rattle.book.proofs.QuestionLaws.{leg-said}
 
 -- SUMS, added and swapped

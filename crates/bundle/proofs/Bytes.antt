@@ -1,25 +1,23 @@
 -- The records of a bundle and its bytes: cutting and joining undo each other.
 -- Assumes nothing.
 use Prim.Native.Nat.{ℕ, zero, suc, _+_, _-_, _≤_, _<_, suc-le-suc}
-use mathlib.Core.Path.{_≡_, refl, sym, _∙_, ap}
-use mathlib.Core.Bool.{Bool, true, false, cond}
-use mathlib.Core.List.{List, [], _∷_, _++_, append-assoc, append-nil}
+use mathlib.Core.Path.{_≡_, refl, _∙_}
+use mathlib.Core.List.{List, [], _∷_, _++_, append-assoc}
 use native.Mathlib.Nat.{le-of-suc-le-suc, not-suc-le-zero}
 use native.Mathlib.Omega.{arith}
-use lib.Dec.{leb, ltb}
 use lib.ListN.{length, getD, take, drop, length-append, length-take, length-drop, take-append-drop}
-use lib.Seq.{take-add, take-at, drop-at, take-append-seam, drop-append-seam, drop-drop}
+use lib.Seq.{take-at, drop-at, drop-drop}
 use borrow.Author.Tests.{lt-leb, le-ltb}
 use Rattle.common.specs.Least.{least}
 use Rattle.common.specs.Lists.{same}
 use Rattle.common.proofs.Least.{passes}
 use Rattle.common.proofs.Lists.{same-is}
-use Rattle.layout.specs.Tables.{tables, marks, lengths, lengthOf}
-use Rattle.bundle.specs.Records.{Rec, rec, noRec, tableOf, stepOf, ifWhole, recordsFrom, restFrom, recordsOf, restOf}
+use Rattle.layout.specs.Tables.{tables, marks, lengthOf}
+use Rattle.bundle.specs.Records.{Rec, rec, tableOf, stepOf, ifWhole, recordsFrom, restFrom, recordsOf, restOf}
 use Rattle.bundle.specs.Meaning.{joined, recordAt, IsRecord}
 use Rattle.bundle.specs.declared.walk.Step.{Step}
 use Rattle.bundle.specs.declared.walk.Step.the-variants.{Unknown, Short, Whole}
-use Rattle.bundle.proofs.Steps.{Lies, whole-lies, nothing-there}
+use Rattle.bundle.proofs.Steps.{whole-lies, nothing-there}
 use Rattle.bundle.proofs.Here.{Over, unknown, short, bodyOf}
 
 -- a whole record is its mark, its body and what follows

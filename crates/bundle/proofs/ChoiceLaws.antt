@@ -7,7 +7,7 @@ use mathlib.Core.List.{List, [], _∷_}
 use mathlib.Core.Logic.{_⊎_, inl, inr, ⊎-elim}
 use native.Mathlib.Omega.{arith}
 use native.Mathlib.Nat.{le-antisymm}
-use lib.Dec.{eqb, leb, ltb}
+use lib.Dec.{eqb, ltb}
 use lib.ListN.{length, getD, drop}
 use borrow.Author.Tests.{lt-ltb, le-ltb, lt-leb, le-leb, eq-eqb, ne-eqb, ltb-true, ltb-false}
 use types.Run.{OneOf}
@@ -15,17 +15,17 @@ use denote.Enum.Declared.{tagOf}
 use Rattle.bundle.proofs.choice.Choice.{the-type}
 use Rattle.common.specs.Least.{least}
 use Rattle.common.proofs.Least.{within, start, more, hit, stays}
-use Rattle.common.proofs.Tests.{side, never}
+use Rattle.common.proofs.Tests.{side}
 use Rattle.layout.specs.Company.{codeOf, isAllRailways}
 use Rattle.layout.specs.Periods.{holdsDay}
-use Rattle.bundle.specs.Records.{Rec, rec, noRec, stepOf, recordsOf, placesOf, bodyAt}
+use Rattle.bundle.specs.Records.{Rec, noRec, stepOf, recordsOf, placesOf, bodyAt}
 use Rattle.bundle.specs.Links.{railwayOf}
 use Rattle.bundle.specs.Choice.{isOf, isOwn, isGeneral, ownAt, generalAt, onDay, choiceOf, atPlace}
 use Rattle.bundle.specs.Fits.{fitOf, firstGeneral, onDayAt}
 use Rattle.bundle.specs.declared.choice.Choice.{Choice}
 use Rattle.bundle.specs.declared.choice.Choice.the-variants.{At, NotThatDay, Nothing}
 use Rattle.bundle.specs.declared.walk.Step.the-variants.{Whole}
-use Rattle.bundle.proofs.Here.{Here, bodyOf, here-at, here-below, here-place, room, at-place}
+use Rattle.bundle.proofs.Here.{Here, here-below, here-place, at-place}
 
 -- the three outcomes of a fit
 abbrev outcome : Bool → Bool → Bool → ℕ

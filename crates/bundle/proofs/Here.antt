@@ -9,7 +9,7 @@ use native.Mathlib.Nat.{add-zero}
 use native.Mathlib.Numerals.{add-one}
 use lib.ListN.{length, getD, take, drop, length-drop, drop-of-length-le}
 use lib.Seq.{drop-drop, getD-drop}
-use Rattle.bundle.specs.Records.{Rec, rec, noRec, stepOf, ifWhole, recordsFrom, restFrom, recordsOf, restOf, placesFrom, placesOf, bodyAt}
+use Rattle.bundle.specs.Records.{rec, noRec, stepOf, recordsFrom, restFrom, recordsOf, restOf, placesFrom, placesOf, bodyAt}
 use types.Run.{OneOf}
 use denote.Enum.Declared.{tagOf}
 use Rattle.bundle.proofs.walk.Step.{the-type}

@@ -1,8 +1,8 @@
 -- WHAT A VERDICT MEANS. Accepted with n exactly if the bytes are n records that keep every rule; refused exactly if that check of the order fails
 -- and none before it.
 -- Assumes nothing.
-use Prim.Native.Nat.{ℕ, zero, suc, _+_, _≤_, _<_}
-use mathlib.Core.Path.{_≡_, refl, sym, _∙_, ap}
+use Prim.Native.Nat.{ℕ, suc, _+_, _<_}
+use mathlib.Core.Path.{_≡_, refl, sym, _∙_}
 use mathlib.Core.Bool.{Bool, true, false, not, _&&_}
 use mathlib.Core.List.{List, [], _∷_, _++_, append-nil}
 use native.Mathlib.Nat.{zero-add}
@@ -11,24 +11,22 @@ use lib.Dec.{eqb, ltb}
 use lib.ListN.{length, getD}
 use borrow.Author.Tests.{lt-ltb, le-ltb, ltb-false, eq-eqb, eqb-true, not-false}
 use Rattle.common.specs.Lists.{same, any}
-use Rattle.common.specs.Checks.{Finding, clean, fault, check, firstFault, eachFrom, First}
-use Rattle.common.proofs.Tests.{never, both-true}
+use Rattle.common.specs.Checks.{clean, firstFault, eachFrom}
+use Rattle.common.proofs.Tests.{never}
 use Rattle.common.proofs.Least.{finds-none, none-finds}
 use Rattle.common.proofs.Lists.{same-is, is-same, any-at, at-any}
-use Rattle.common.proofs.Checks.{fault-means, means-fault, one-clean, clean-one, append-clean, clean-append, each-clean, clean-each}
+use Rattle.common.proofs.Checks.{one-clean, clean-one, append-clean, clean-append, each-clean, clean-each}
 use Rattle.layout.specs.Layout.{layout, noRow, rows}
 use Rattle.layout.specs.Rules.{obeysRow, breaks, brokenRow}
-use Rattle.bundle.specs.Records.{Rec, noRec, stepOf, recordsOf, restOf}
+use Rattle.bundle.specs.Records.{Rec, noRec, recordsOf, restOf}
 use Rattle.bundle.specs.Keys.{transferorOf, otherTransferor, clash, earlierOf}
 use Rattle.bundle.specs.Links.{links, linkRows, noLink, isAsked, serves, lacks, missingLink}
-use Rattle.bundle.specs.Verdict.{limit, isUnknown, isShort, fieldChecks, endChecks, firstPass, recordChecks, secondPass, checks, judged, verdictOf}
-use Rattle.bundle.specs.Meaning.{joined, recordAt, IsRecord, KeepsRows, Linked, Good}
-use Rattle.bundle.specs.declared.walk.Step.the-variants.{Unknown, Short}
-use Rattle.bundle.specs.declared.Judgement.{Judgement}
-use Rattle.bundle.specs.declared.Judgement.the-variants.{Accepted, Refused}
+use Rattle.bundle.specs.Verdict.{limit, fieldChecks, endChecks, firstPass, recordChecks, secondPass, checks, verdictOf}
+use Rattle.bundle.specs.Meaning.{joined, recordAt, KeepsRows, Linked, Good}
+use Rattle.bundle.specs.declared.Judgement.the-variants.{Accepted}
 use Rattle.bundle.proofs.Steps.{nothing-there}
 use Rattle.bundle.proofs.Here.{Over, unknown, short}
-use Rattle.bundle.proofs.PassLaws.{is-fault, is-clean}
+use Rattle.bundle.proofs.PassLaws.{is-clean}
 use Rattle.bundle.proofs.Bytes.{cut-joined, cut-over, cut-whole, joined-cut}
 
 -- FIELDS: no row is broken exactly if each of the table is kept
@@ -179,13 +177,3 @@ accepted-good s n e =
 pub good-accepted : (s : List ℕ) (R : List Rec) → Good s R → verdictOf s ≡ Accepted (length R)
 unfolding verdictOf
 good-accepted s R g = rw (good-clean s R g, recut s R g)
-
--- It is refused only by a check of the order that fails, with none before it,
-pub refused-first : (s : List ℕ) (k p d : ℕ) → verdictOf s ≡ Refused k p d → First (checks s) k p d
-unfolding verdictOf
-refused-first s k p d e = fault-means (checks s) k p d (is-fault (firstFault (checks s)) (length (recordsOf s)) k p d e)
-
--- and by any such.
-pub first-refused : (s : List ℕ) (k p d : ℕ) → First (checks s) k p d → verdictOf s ≡ Refused k p d
-unfolding verdictOf
-first-refused s k p d f = rw (means-fault (checks s) k p d f)

@@ -1,19 +1,19 @@
 -- What each record adds to the two passes: the laws that their loops cite.
 -- Assumes nothing.
 use Prim.Native.Nat.{ℕ, _+_, _-_, _≤_, _<_}
-use mathlib.Core.Path.{_≡_, refl, sym, _∙_, ap}
-use mathlib.Core.Bool.{Bool, true, false, cond, not, _&&_}
+use mathlib.Core.Path.{_≡_, refl, _∙_}
+use mathlib.Core.Bool.{Bool, true, false, cond, not}
 use mathlib.Core.List.{List, [], _∷_, _++_}
 use native.Mathlib.Omega.{arith}
 use lib.Dec.{ltb}
-use lib.ListN.{length, getD, take, drop, length-drop, drop-of-length-le}
+use lib.ListN.{length, getD, drop, length-drop, drop-of-length-le}
 use borrow.Author.Tests.{lt-ltb, le-ltb}
 use Rattle.common.specs.Lists.{same}
-use Rattle.common.specs.Checks.{Finding, clean, fault, Check, check, firstFault, eachFrom}
+use Rattle.common.specs.Checks.{Finding, clean, fault, firstFault, eachFrom}
 use Rattle.common.proofs.Checks.{orElse, fault-append}
 use Rattle.layout.specs.Layout.{layout, noRow, rows}
 use Rattle.layout.specs.Rules.{brokenRow}
-use Rattle.bundle.specs.Records.{Rec, rec, noRec, stepOf, recordsOf, restOf}
+use Rattle.bundle.specs.Records.{Rec, noRec, stepOf, recordsOf, restOf}
 use Rattle.bundle.specs.Keys.{transferorOf, otherTransferor, earlierOf}
 use Rattle.bundle.specs.Links.{links, linkRows, noLink, missingLink}
 use Rattle.bundle.specs.Verdict.{limit, fieldChecks, endChecks, firstPass, recordChecks, secondPass, checks, judged, verdictOf}

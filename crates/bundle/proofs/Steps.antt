@@ -1,20 +1,18 @@
 -- Laws of one step: the marks one by one, and what a whole record says of its place.
 -- Assumes nothing.
-use Prim.Native.Nat.{ℕ, zero, suc, _+_, _-_, _*_, _≤_, _<_}
+use Prim.Native.Nat.{ℕ, suc, _+_, _-_, _*_, _≤_, _<_}
 use mathlib.Core.Path.{_≡_, refl, sym, _∙_, ap}
 use mathlib.Core.Bool.{Bool, true, false, cond, _&&_, and-false, and-true}
 use mathlib.Core.List.{List, [], _∷_}
 use native.Mathlib.Omega.{arith}
 use lib.Dec.{eqb, leb, ltb}
-use lib.ListN.{length, getD, take, drop}
+use lib.ListN.{length, getD}
 use borrow.Author.Tests.{leb-false, ltb-false, eq-eqb, ne-eqb, eqb-true, eqb-false}
 use Rattle.common.specs.Least.{least}
 use Rattle.common.specs.Lists.{same}
-use Rattle.common.proofs.Least.{within}
 use Rattle.layout.specs.Bytes.{byte-A, byte-C, byte-E, byte-M, byte-O, byte-R}
 use Rattle.layout.specs.Tables.{CO, RE, AR, ME, tables, marks, lengthOf}
 use Rattle.bundle.specs.Records.{tableOf, isMark, stepOf}
-use Rattle.bundle.specs.declared.walk.Step.{Step}
 use Rattle.bundle.specs.declared.walk.Step.the-variants.{Unknown, Short, Whole}
 
 -- a mark, byte by byte

@@ -3,7 +3,7 @@
 use Prim.Native.Nat.{ℕ}
 use mathlib.Core.Bool.{Bool, true, cond, _&&_}
 use mathlib.Core.List.{List}
-use lib.Dec.{eqb, leb, ltb}
+use lib.Dec.{eqb, ltb}
 use lib.ListN.{length, getD}
 use Rattle.common.specs.Least.{least}
 use Rattle.common.specs.Digits.{numberOf, valueOf}
@@ -11,7 +11,7 @@ use Rattle.layout.specs.Tables.{AR}
 use Rattle.layout.specs.Company.{codeOf, isAllRailways}
 use Rattle.layout.specs.Rules.{fieldAt}
 use Rattle.layout.specs.Periods.{holdsDay}
-use Rattle.bundle.specs.Records.{Rec, noRec, placesOf, bodyAt}
+use Rattle.bundle.specs.Records.{Rec, noRec, placesOf}
 use Rattle.bundle.specs.Links.{offerOf, railwayOf}
 use Rattle.bundle.specs.declared.choice.Choice.{Choice}
 use Rattle.bundle.specs.declared.choice.Choice.the-variants.{At, NotThatDay, Nothing}

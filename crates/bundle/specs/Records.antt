@@ -1,9 +1,9 @@
 -- The records of a bundle (document 01, 'The bundle'): each behind its mark, one after the other with nothing between them.
 -- Assumes nothing.
 use Prim.Native.Nat.{ℕ, zero, suc, _+_, _-_}
-use mathlib.Core.Bool.{Bool, cond, _&&_}
+use mathlib.Core.Bool.{Bool, cond}
 use mathlib.Core.List.{List, [], _∷_}
-use lib.Dec.{eqb, leb, ltb}
+use lib.Dec.{leb, ltb}
 use lib.ListN.{length, getD, take, drop}
 use Rattle.common.specs.Least.{least}
 use Rattle.common.specs.Lists.{same}

@@ -1,7 +1,6 @@
 -- The verdict on a bundle: its checks in document 01's order, of which the first that fails is told ('Keys and links', 'Numbers that turn work away').
 -- Assumes nothing.
-use Prim.Native.Nat.{ℕ, _≤_, _<_}
-use mathlib.Core.Path.{_≡_}
+use Prim.Native.Nat.{ℕ}
 use mathlib.Core.Bool.{Bool, true, false, _&&_}
 use mathlib.Core.List.{List, [], _∷_, _++_}
 use lib.Dec.{ltb}

@@ -2,8 +2,8 @@
 -- Assumes nothing.
 use Prim.Native.Nat.{ℕ, zero, suc, _+_, _≤_, _<_, suc-le-suc}
 use mathlib.Core.Path.{_≡_, refl, sym, _∙_, ap}
-use mathlib.Core.Bool.{Bool, true, false, cond, _&&_, _||_}
-use mathlib.Core.List.{List, [], _∷_, _++_, append-assoc}
+use mathlib.Core.Bool.{Bool, true, false, cond}
+use mathlib.Core.List.{List, [], _∷_, _++_}
 use native.Mathlib.Nat.{add-zero, le-of-suc-le-suc}
 use native.Mathlib.Omega.{arith}
 use native.Mathlib.Numerals.{add-one}
@@ -19,10 +19,6 @@ use Rattle.common.proofs.Tests.{both-true, either-false}
 abbrev pub orElse : Finding → Finding → Finding
 orElse clean rest = rest
 orElse (fault k p d) rest = fault k p d
-
-pub clean-else : (f : Finding) → orElse f clean ≡ f
-clean-else clean = refl
-clean-else (fault k p d) = refl
 
 -- one check after another
 else-cond : (t : Bool) (k p d : ℕ) {r : Finding} (a b : Finding) → r ≡ orElse a b → cond t (fault k p d) r ≡ orElse (cond t (fault k p d) a) b

@@ -14,7 +14,7 @@ use lib.Seq.{drop-cons, getD-drop, getD-at}
 use borrow.Author.Tests.{eq-eqb, eqb-true, lt-ltb}
 use Rattle.common.specs.Least.{least}
 use Rattle.common.specs.Lists.{every, any, same, firstOf, upTo}
-use Rattle.common.proofs.Tests.{never, both-true, either-false, side}
+use Rattle.common.proofs.Tests.{never, both-true, side}
 
 module _ {A : Type 0} (p : A → Bool) where
   pub every-step : (s : List A) (i : ℕ) (d : A) → i < length s → every p (drop i s) ≡ (p (getD s i d) && every p (drop (i + 1) s))

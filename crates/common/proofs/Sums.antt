@@ -1,16 +1,14 @@
 -- Sums, a list that is filled from the front with zeros behind, and f 0, f 1, .., f (n - 1) as a list.
 -- Assumes nothing.
 use Prim.Native.Nat.{ℕ, zero, suc, _+_, _-_, _*_, _≤_, _<_}
-use mathlib.Core.Path.{_≡_, refl, sym, _∙_, ap}
+use mathlib.Core.Path.{_≡_, refl, sym}
 use mathlib.Core.List.{List, [], _∷_, _++_, append-assoc, map, map-append}
-use mathlib.Core.Logic.{⊎-elim}
 use native.Mathlib.Nat.{zero-add, suc-mul}
 use native.Mathlib.Numerals.{add-one}
 use native.Mathlib.Omega.{arith}
-use lib.ListN.{length, take, getD, set, replicate, length-append, length-map, length-take, List·getD-append}
-use lib.Seq.{set-at, getD-at, take-suc, length-take-le}
+use lib.ListN.{length, take, getD, set, replicate, length-map, length-take}
+use lib.Seq.{set-at, take-suc}
 use Rattle.common.specs.Lists.{sum, upTo}
-use Rattle.common.proofs.Tests.{side}
 
 pub sum-append : (a b : List ℕ) → sum (a ++ b) ≡ sum a + sum b
 unfolding sum

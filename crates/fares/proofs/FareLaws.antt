@@ -2,30 +2,27 @@
 -- Assumes nothing.
 use Prim.Native.Nat.{ℕ, _+_, _-_, _*_, _≤_, _<_}
 use mathlib.Core.Path.{_≡_, refl, sym, _∙_, ap}
-use mathlib.Core.Bool.{Bool, true, false, cond, not, _&&_}
-use mathlib.Core.List.{List, [], _∷_, _++_, map, append-assoc}
-use native.Mathlib.Nat.{mul-le-mul}
+use mathlib.Core.Bool.{true, false, cond}
+use mathlib.Core.List.{List, [], _∷_, _++_, map}
 use native.Mathlib.Omega.{arith}
 use lib.Dec.{leb, ltb}
-use lib.ListN.{length, getD, take, drop, replicate, length-take, length-map, List·getD-map}
-use lib.Seq.{take-all, getD-take}
-use borrow.Author.Tests.{lt-ltb, le-ltb, leb-true}
-use Rattle.common.specs.Lists.{sum, every}
+use lib.ListN.{length, getD, take, drop, length-take, length-map}
+use lib.Seq.{getD-take}
+use borrow.Author.Tests.{leb-true}
+use Rattle.common.specs.Lists.{sum}
 use Rattle.common.specs.Checks.{Finding, clean, fault, Check, check, firstFault, eachFrom}
 use Rattle.common.proofs.Tests.{both-true}
 use Rattle.common.proofs.Lists.{every-at}
 use Rattle.common.proofs.Checks.{orElse, fault-append, each-step, each-end}
 use Rattle.common.proofs.Sums.{sum-small, map-at}
-use Rattle.layout.specs.Dates.{isDay}
 use Rattle.bundle.specs.Records.{Rec, recordsOf}
-use Rattle.bundle.specs.Verdict.{checks, judged, verdictOf}
+use Rattle.bundle.specs.Verdict.{checks, verdictOf}
 use Rattle.bundle.specs.declared.Judgement.the-variants as verdict
 use Rattle.bundle.proofs.PassLaws.{is-fault, is-clean}
 use Rattle.fares.specs.Question.{between, legInLimits, noLeg, legsOf, limitsOf, inLimits}
 use Rattle.fares.specs.Reductions.{partBound}
-use Rattle.fares.specs.Legs.{legChecks, partBy, partOf, chosenBody, conditionsFor, answered}
+use Rattle.fares.specs.Legs.{legChecks, partOf, chosenBody, conditionsFor, answered}
 use Rattle.fares.specs.Fare.{partsOf, mostFare, priceChecks, fareChecks, refusal, quoted, priceOf, fareOf}
-use Rattle.fares.specs.declared.Leg.{Leg}
 use Rattle.fares.specs.declared.Question.{Question}
 use Rattle.fares.specs.declared.legs.Priced.the-variants.{Part, Refused}
 use Rattle.fares.proofs.LegLaws.{leg-small}

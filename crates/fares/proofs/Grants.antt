@@ -27,7 +27,7 @@ use Rattle.fares.specs.declared.reductions.Reduction.{Reduction}
 use Rattle.fares.proofs.RoundLaws.{up-is, down-is, near-is}
 
 -- what a record may grant
-pub record Granted (r : Reduction) : Type 0 where
+pub record Lawful (r : Reduction) : Type 0 where
   pub at-most-whole : r .discount ≤ unit
   pub one-of-four : isRounding (r .mode) ≡ true
   pub factor-used : (r .mode ≡ byte-N → ⊥) → 0 < r .factor
@@ -49,9 +49,9 @@ by-mode n f mode false false false p m z h g =
     let x : eqb mode byte-N ≡ true = rw (p, m, z) at h in
     inr (inr (inr (eqb-true mode byte-N x, rw (p, m, z, x) (near-is n 1 (omega arith)))))
 
-pub rounded-as-granted : (r : Reduction) → Granted r → (amount : ℕ) → IsRounded (r .mode) (amount * (unit - r .discount)) (r .factor) (reduceBy amount r)
+pub rounded-as-said : (r : Reduction) → Lawful r → (amount : ℕ) → IsRounded (r .mode) (amount * (unit - r .discount)) (r .factor) (reduceBy amount r)
 unfolding reduceBy
-rounded-as-granted r g amount =
+rounded-as-said r g amount =
     by-mode (amount * (unit - r .discount)) (r .factor) (r .mode) (eqb (r .mode) byte-plus) (eqb (r .mode) byte-minus) (eqb (r .mode) byte-0)
     refl refl refl (g .one-of-four) (g .factor-used)
 
@@ -83,18 +83,18 @@ unfolding factorRule
 factor-above mode s h n = within-value 1 999 (numberOf s) (rw (ne-eqb mode byte-N n) at h) .0
 
 module _ (r : Rec) (keeps : KeepsRows r) where
-  pub conditions-granted : r .kind ≡ CO → Granted (conditionsGrant (r .body))
+  pub conditions-lawful : r .kind ≡ CO → Lawful (conditionsGrant (r .body))
   unfolding layout obeysRow ruled reductionAt
-  conditions-granted e =
+  conditions-lawful e =
       record {
         at-most-whole = at-most unit (fieldAt 128 6 (r .body)) _ refl (keeps 16 (omega arith) (sym e));
         one-of-four = keeps 17 (omega arith) (sym e);
         factor-used = factor-above (byteAt 134 (r .body)) (fieldAt 135 3 (r .body)) (keeps 18 (omega arith) (sym e));
       }
 
-  pub card-granted : r .kind ≡ AR → Granted (cardGrants (r .body))
+  pub card-lawful : r .kind ≡ AR → Lawful (cardGrants (r .body))
   unfolding layout obeysRow ruled reductionAt
-  card-granted e =
+  card-lawful e =
       record {
         at-most-whole = within-value 0 unit (numberOf (fieldAt 17 6 (r .body))) (keeps 37 (omega arith) (sym e)) .1;
         one-of-four = keeps 41 (omega arith) (sym e);

@@ -1,12 +1,11 @@
 -- What a leg's choice, checks and steps come to: the laws that the functions over a leg cite.
 -- Assumes nothing.
-use Prim.Native.Nat.{ℕ, _+_, _*_, _≤_, _<_}
-use mathlib.Core.Path.{_≡_, refl, sym, _∙_, ap}
-use mathlib.Core.Bool.{Bool, true, false, cond, not, _&&_}
-use mathlib.Core.List.{List, [], _∷_}
+use Prim.Native.Nat.{ℕ, _*_, _≤_}
+use mathlib.Core.Path.{_≡_}
+use mathlib.Core.Bool.{Bool, true, false, cond}
+use mathlib.Core.List.{List, []}
 use mathlib.Core.Logic.{_⊎_, ⊎-elim}
 use native.Mathlib.Omega.{arith}
-use lib.Dec.{eqb, ltb}
 use lib.ListN.{length, getD}
 use borrow.Author.Tests.{eq-eqb, ne-eqb}
 use Rattle.common.specs.Lists.{byteAt}
@@ -17,7 +16,7 @@ use Rattle.bundle.specs.Records.{Rec, noRec}
 use Rattle.bundle.specs.Choice.{choiceOf}
 use Rattle.bundle.specs.declared.choice.Choice.{Choice}
 use Rattle.bundle.specs.declared.choice.Choice.the-variants.{At, NotThatDay, Nothing}
-use Rattle.fares.specs.Reductions.{reductionAt, conditionsGrant, cardGrants, reduceBy, reduceAll, steps, partBound}
+use Rattle.fares.specs.Reductions.{conditionsGrant, reduceBy, reduceAll, partBound}
 use Rattle.fares.specs.Legs.{byCard, cardCounts, cardSteps, stepsOf, partBy, partOf, conditionsFor, legChecks, answered, answerBy}
 use Rattle.fares.specs.declared.legs.Priced.the-variants.{Refused}
 use Rattle.fares.specs.declared.Leg.{Leg}

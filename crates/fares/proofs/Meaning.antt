@@ -1,9 +1,9 @@
 -- WHAT A FARE MEANS. Each part is the persons times the exact steps of the records that the rules choose, and number 16 is never met.
 -- Assumes nothing.
 use Prim.Native.Nat.{ℕ, _+_, _-_, _*_, _≤_, _<_}
-use mathlib.Core.Path.{_≡_, refl, sym, _∙_, ap}
+use mathlib.Core.Path.{_≡_, _∙_}
 use mathlib.Core.Bool.{true, false}
-use mathlib.Core.List.{List, [], _∷_, _++_, map}
+use mathlib.Core.List.{List, _++_, map}
 use native.Mathlib.Nat.{mul-le-mul-right}
 use native.Mathlib.Omega.{arith}
 use lib.Dec.{ltb}
@@ -11,50 +11,15 @@ use lib.ListN.{length, getD, take, replicate, length-map, List·getD-append}
 use lib.Seq.{take-all}
 use borrow.Author.Tests.{le-ltb}
 use Rattle.common.specs.Lists.{sum}
-use Rattle.common.specs.Checks.{Finding, clean, fault, check, firstFault, eachFrom, First}
 use Rattle.common.proofs.Lists.{first-length}
-use Rattle.common.proofs.Checks.{fault-means, means-fault}
 use Rattle.common.proofs.Sums.{sum-padded, map-at}
-use Rattle.bundle.specs.Records.{Rec, recordsOf}
+use Rattle.bundle.specs.Records.{Rec}
 use Rattle.fares.specs.Question.{noLeg, legsOf, inLimits}
 use Rattle.fares.specs.Reductions.{reduceAll, partBound}
 use Rattle.fares.specs.Legs.{partBy, partOf, chosenBody, conditionsFor, stepsOf}
-use Rattle.fares.specs.Fare.{partsOf, mostFare, fareChecks, refusal, priced, quoted, fareOf}
+use Rattle.fares.specs.Fare.{partsOf, mostFare}
 use Rattle.fares.specs.declared.Question.{Question}
-use Rattle.fares.specs.declared.Quote.{Quote}
-use Rattle.fares.specs.declared.Pricing.{Pricing}
-use Rattle.fares.specs.declared.Pricing.the-variants.{Priced, Refused}
-use Rattle.fares.proofs.FareLaws.{Asked, asked, sum-of-parts}
-
--- a quote tells what was found
-quoted-priced : (f : Finding) (parts : List ℕ) → quoted f parts .outcome ≡ Priced → f ≡ clean
-quoted-priced clean parts e = refl
-quoted-priced (fault k p d) parts e = let z : _≡_ {A = ℕ} 0 1 = cc in absurd (omega arith)
-
-quoted-refused : (f : Finding) (parts : List ℕ) (k p d : ℕ) → quoted f parts .outcome ≡ Refused k p d → f ≡ fault k p d
-quoted-refused clean parts k p d e = let z : _≡_ {A = ℕ} 0 1 = cc in absurd (omega arith)
-quoted-refused (fault a b c) parts k p d e =
-    let x : a ≡ k = cc in
-    let y : b ≡ p = cc in
-    let z : c ≡ d = cc in
-    rw (x, y, z)
-
-module _ (s : List ℕ) (q : Question) where
-  -- a fare that is found is the sum of the parts,
-  pub found-is-priced : fareOf s q .outcome ≡ Priced → fareOf s q ≡ priced (partsOf (recordsOf s) q)
-  unfolding fareOf
-  found-is-priced e = rw (quoted-priced (firstFault (fareChecks s q)) (partsOf (recordsOf s) q) e)
-
-  -- one that is refused is refused by the first check that fails, with all amounts zero, and by any such
-  pub refused-is-first : (k p d : ℕ) → fareOf s q .outcome ≡ Refused k p d → (fareOf s q ≡ refusal k p d) × First (fareChecks s q) k p d
-  unfolding fareOf
-  refused-is-first k p d e =
-      let f = quoted-refused (firstFault (fareChecks s q)) (partsOf (recordsOf s) q) k p d e in
-      (rw f, fault-means (fareChecks s q) k p d f)
-
-  pub first-is-refused : (k p d : ℕ) → First (fareChecks s q) k p d → fareOf s q ≡ refusal k p d
-  unfolding fareOf
-  first-is-refused k p d f = rw (means-fault (fareChecks s q) k p d f)
+use Rattle.fares.proofs.FareLaws.{asked, sum-of-parts}
 
 -- EACH PART: the exact steps of CO and, if it applies, the card, each rounded once, times the persons
 pub each-part : (R : List Rec) (q : Question) (k : ℕ) → k < q .count → let leg = getD (legsOf q) k noLeg in

@@ -1,7 +1,7 @@
 -- The rules of rounding mean what they are to mean, no other amount does, and each is bounded and monotone.
 -- Assumes nothing.
 use Prim.Native.Nat.{ℕ, zero, suc, _+_, _-_, _*_, _/_, _%_, _≤_, _<_, zero-le}
-use mathlib.Core.Path.{_≡_, refl, sym, _∙_, ap}
+use mathlib.Core.Path.{_≡_, refl, sym, ap}
 use mathlib.Core.Bool.{Bool, true, false, cond}
 use mathlib.Core.Logic.{⊎-elim}
 use native.Mathlib.Nat.{mul-assoc, mul-zero, zero-mul, div-eq-of-lt, suc-mul, mul-left-comm, div-add-mod', mod-lt, div-mul-le-self, le-div-iff-mul-le, mul-le-mul-right, lt-of-mul-lt-mul-right, le-antisymm, le-trans, le-of-lt, le-of-eq, le-refl}

@@ -1,16 +1,14 @@
 -- One step and a chain of steps: at most 998 cents are added a step; a smaller amount and a larger discount give no more.
 -- Assumes nothing.
-use Prim.Native.Nat.{ℕ, zero, suc, _+_, _-_, _*_, _≤_, _<_}
-use mathlib.Core.Path.{_≡_, refl, sym, _∙_, ap}
-use mathlib.Core.Bool.{Bool, true, false, cond}
+use Prim.Native.Nat.{ℕ, _+_, _-_, _*_, _≤_}
+use mathlib.Core.Path.{_≡_}
 use mathlib.Core.List.{List, [], _∷_}
 use native.Mathlib.Nat.{mul-zero, mul-le-mul, mul-le-mul-left, le-trans, le-refl}
 use native.Mathlib.Omega.{arith}
 use lib.ListN.{length, length-take}
-use Rattle.common.specs.Digits.{numberOf, valueOf}
 use Rattle.common.proofs.Digits.{number-small}
 use Rattle.layout.specs.Rules.{fieldAt}
-use Rattle.fares.specs.Rounding.{unit, rounded}
+use Rattle.fares.specs.Rounding.{unit}
 use Rattle.fares.specs.Reductions.{reductionAt, reduceBy, reduceAll, steps, partBound}
 use Rattle.fares.specs.declared.reductions.Reduction.{Reduction}
 use Rattle.fares.proofs.RoundLaws.{rounded-small, rounded-mono, rounded-zero}

@@ -1,7 +1,7 @@
 -- The fare of a ticket: the checks in their order, the parts and their sum (document 01, 'Pricing' and 'The sales book', its last line).
 -- Assumes nothing.
 use Prim.Native.Nat.{ℕ, _-_}
-use mathlib.Core.Bool.{Bool, not}
+use mathlib.Core.Bool.{not}
 use mathlib.Core.List.{List, [], _∷_, _++_, map}
 use lib.Dec.{ltb}
 use lib.ListN.{replicate}

@@ -16,7 +16,7 @@ use Rattle.bundle.specs.Records.{Rec, noRec}
 use Rattle.bundle.specs.Choice.{choiceOf}
 use Rattle.bundle.specs.declared.choice.Choice.{Choice}
 use Rattle.bundle.specs.declared.choice.Choice.the-variants.{At, NotThatDay, Nothing}
-use Rattle.fares.specs.Reductions.{conditionsGrant, cardGrants, reduceBy, reduceAll}
+use Rattle.fares.specs.Reductions.{conditionsGrant, cardGrants, reduceAll}
 use Rattle.fares.specs.declared.Leg.{Leg}
 use Rattle.fares.specs.declared.Question.{Question}
 use Rattle.fares.specs.declared.legs.Flag.{Flag}

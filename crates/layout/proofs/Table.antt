@@ -8,7 +8,7 @@ use mathlib.Core.List.{List, [], _∷_, map}
 use mathlib.Core.Logic.{⊎-elim}
 use native.Mathlib.Omega.{arith}
 use lib.Dec.{eqb, leb, ltb}
-use lib.ListN.{length, getD, List·getD-map}
+use lib.ListN.{getD, List·getD-map}
 use borrow.Author.Tests.{le-leb, lt-leb, lt-ltb, le-ltb, not-false, ltb-true, ne-eqb}
 use Rattle.common.specs.Least.{least}
 use Rattle.common.proofs.Least.{none, before}

@@ -1,8 +1,8 @@
 -- What each rule kind asks of a field, and the first row of the layout that a record breaks (document 01, 'Values').
 -- Assumes nothing.
-use Prim.Native.Nat.{ℕ, _+_, _-_}
+use Prim.Native.Nat.{ℕ, _-_}
 use mathlib.Core.List.{List, [], _∷_}
-use mathlib.Core.Bool.{Bool, true, false, cond, not, _&&_, _||_}
+use mathlib.Core.Bool.{Bool, false, cond, not, _&&_, _||_}
 use lib.ListN.{getD, take, drop, length}
 use lib.Dec.{eqb, leb}
 use Rattle.common.specs.Least.{least}

@@ -8,9 +8,9 @@ use native.Mathlib.Omega.{arith}
 use lib.Dec.{eqb, leb}
 use lib.ListN.{length, replicate}
 use Rattle.common.specs.Lists.{every, any, sum}
-use Rattle.common.specs.Checks.{Finding, clean, fault, Check, check, firstFault, eachFrom, AllPass, First, TellsOf}
+use Rattle.common.specs.Checks.{Finding, clean, fault, Check, check, firstFault, eachFrom, TellsOf}
 use Rattle.common.proofs.Checks.{clean-means, means-clean, fault-means, means-fault, append-tells, each-tells, first-among}
-use Rattle.bundle.specs.Records.{Rec, restOf, recordsOf}
+use Rattle.bundle.specs.Records.{restOf, recordsOf}
 use Rattle.bundle.specs.Verdict.{fieldChecks, endChecks, firstPass, recordChecks, secondPass, checks, judged, verdictOf}
 use Rattle.bundle.specs.declared.Judgement.{Judgement}
 use Rattle.bundle.specs.declared.Judgement.the-variants.{Accepted, Refused}

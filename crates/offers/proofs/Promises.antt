@@ -31,19 +31,19 @@ use Rattle.fares.proofs.RoundLaws.{up-only, down-only, near-only}
 use Rattle.fares.proofs.StepLaws.{whole-discount}
 use Rattle.fares.proofs.LegLaws.{leg-small}
 use Rattle.fares.proofs.Meaning.{each-part, never-sixteen}
-use Rattle.fares.proofs.Grants.{rounded-as-granted, conditions-granted, card-granted}
+use Rattle.fares.proofs.Grants.{rounded-as-said, conditions-lawful, card-lawful}
 use Rattle.book.specs.Words.{entries, questionWords}
 use Rattle.book.specs.Sound.{soundWords}
 use Rattle.book.specs.Sales.{isPresent, present, saleChecks, saleAnswer, saleWords, cancelChecks, cancelAnswer, cancelWords}
 use Rattle.book.specs.Balances.{ofRailway, ofAll, balanceOf, balanceChecks, totalChecks, balanceAnswer, totalAnswer}
-use Rattle.book.specs.History.{Number, Op, sale, cancel, emptyBook, after, cancelledIn, owed}
+use Rattle.book.specs.History.{Number, Op, sale, emptyBook, after, cancelledIn, owed}
 use Rattle.book.specs.declared.Receipt.{Receipt}
 use Rattle.book.specs.declared.Sum.{Sum}
 use Rattle.book.proofs.Owed.{balance-is-owed, always-sound}
 use Rattle.book.proofs.Totals.{total-is-sum}
 use Rattle.book.proofs.Resent.{told-first, refused-other, nothing-changes}
 use Rattle.book.proofs.JudgeLaws.{booked-parts, not-booked-stays, not-cancelled-stays}
-use Rattle.offers.specs.Answers.{Told, answers, refuses, verdictTells, fareTells, booked, alreadyBooked, cancelled, alreadyCancelled, outcomeTells, receiptTells, sumTells}
+use Rattle.offers.specs.Answers.{answers, refuses, verdictTells, fareTells, booked, alreadyBooked, cancelled, alreadyCancelled, outcomeTells, receiptTells, sumTells}
 use Rattle.offers.specs.Answers.{Follows, Among, verdictNumbers, fareNumbers, saleNumbers, cancelNumbers, balanceNumbers, totalNumbers}
 use Rattle.offers.proofs.Orders.{verdict-follows, fare-follows, sale-follows, cancel-follows, balance-follows, total-follows}
 use Rattle.offers.proofs.Orders.{refused-among, verdict-numbers, fare-numbers, sale-numbers, cancel-numbers, balance-numbers, total-numbers}
@@ -131,15 +131,15 @@ pub the-conditions-round-as-their-record-says : (s : List ℕ) (R : List Rec) �
     → let g = conditionsGrant (recordAt R i .body) in
     (g .discount ≤ unit) × IsRounded (g .mode) (amount * (unit - g .discount)) (g .factor) (reduceBy amount g)
 the-conditions-round-as-their-record-says s R good i l e amount =
-    let g = conditions-granted (recordAt R i) (good .fields i l) e in
-    (g .at-most-whole, rounded-as-granted _ g amount)
+    let g = conditions-lawful (recordAt R i) (good .fields i l) e in
+    (g .at-most-whole, rounded-as-said _ g amount)
 
 pub a-card-rounds-as-its-record-says : (s : List ℕ) (R : List Rec) → Good s R → (i : ℕ) → i < length R → recordAt R i .kind ≡ AR → (amount : ℕ)
     → let g = cardGrants (recordAt R i .body) in
     (g .discount ≤ unit) × IsRounded (g .mode) (amount * (unit - g .discount)) (g .factor) (reduceBy amount g)
 a-card-rounds-as-its-record-says s R good i l e amount =
-    let g = card-granted (recordAt R i) (good .fields i l) e in
-    (g .at-most-whole, rounded-as-granted _ g amount)
+    let g = card-lawful (recordAt R i) (good .fields i l) e in
+    (g .at-most-whole, rounded-as-said _ g amount)
 
 -- No other amount is the least multiple not below, the greatest not above, or the nearest with halves up.
 pub only-one-is-up : {n f r s : ℕ} → IsUp n f r → IsUp n f s → r ≡ s

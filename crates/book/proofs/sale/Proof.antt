@@ -1,13 +1,7 @@
 -- `book::sale` meets its contract: it writes exactly if the sale is newly booked.
 -- Assumes nothing.
-use Prim.Native.Nat.{ℕ, _≤_, _<_}
 use mathlib.Core.Path.{_≡_, sym, _∙_, ap}
-use mathlib.Core.Bool.{true, _&&_}
 use native.Mathlib.Omega.{arith}
-use lib.Dec.{leb}
-use borrow.Author.Tests.{leb-true}
-use Rattle.common.proofs.Tests.{both-true}
-use Rattle.book.specs.Sound.{numberInLimits}
 use Rattle.book.specs.declared.Receipt.{Receipt}
 use Rattle.book.proofs.EntryLaws.{is-sound}
 use Rattle.book.specs.Words.{booking}

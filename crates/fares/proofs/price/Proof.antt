@@ -1,7 +1,7 @@
 -- `fares::price` meets its contract. The loop's invariant: the parts of the legs before k stand in front, the fare is their sum, and what is found is what
 -- is found from leg k on.
 -- Assumes nothing.
-use Prim.Native.Nat.{ℕ, _+_, _-_, _*_, _≤_, _<_}
+use Prim.Native.Nat.{_+_, _-_, _≤_, _<_}
 use mathlib.Core.Path.{_≡_, refl, sym, _∙_, ap, ap₂}
 use mathlib.Core.Bool.{true, cond}
 use mathlib.Core.List.{List, _++_, map}
@@ -20,7 +20,7 @@ use Rattle.common.proofs.Sums.{sum-padded, sum-next, fill-next}
 use Rattle.bundle.specs.Records.{Rec, recordsOf}
 use Rattle.fares.specs.Question.{noLeg, legsOf, inLimits}
 use Rattle.fares.specs.Legs.{legChecks, partOf, answered}
-use Rattle.fares.specs.Fare.{partsOf, mostFare, priceChecks, priceOf}
+use Rattle.fares.specs.Fare.{partsOf, mostFare, priceChecks}
 use Rattle.fares.specs.Reductions.{partBound}
 use Rattle.common.proofs.Checks.{orElse}
 use Rattle.fares.specs.declared.Pricing.the-variants.{Priced}

@@ -1,15 +1,14 @@
 -- `book::judged::judge_cancel` meets its contract.
 -- Assumes nothing.
-use Prim.Native.Nat.{ℕ, _+_, _*_, _≤_, _<_}
-use mathlib.Core.Path.{_≡_, sym, _∙_, ap, ap₂}
+use Prim.Native.Nat.{ℕ, _≤_, _<_}
+use mathlib.Core.Path.{_≡_, sym, _∙_, ap}
 use mathlib.Core.Bool.{true, cond, _&&_}
 use Rattle.common.specs.Least.{least}
 use native.Mathlib.Omega.{arith}
 use lib.Dec.{eqb, leb}
 use borrow.Author.Tests.{leb-true, eq-eqb, ne-eqb}
-use lib.ListN.{length}
 use Rattle.common.proofs.Tests.{fails, holds, both-true}
-use Rattle.book.specs.Words.{countOf, width, entryAt}
+use Rattle.book.specs.Words.{countOf, entryAt}
 use Rattle.book.specs.Sound.{numberInLimits, sameNumber, soundWords}
 use Rattle.book.proofs.EntryLaws.{IsSound, is-sound}
 use Rattle.book.specs.Sales.{receipt, cancelAnswer}

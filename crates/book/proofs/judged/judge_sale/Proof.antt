@@ -1,14 +1,13 @@
 -- `book::judged::judge_sale` meets its contract.
 -- Assumes nothing.
-use Prim.Native.Nat.{_+_, _*_, _≤_, _<_}
-use mathlib.Core.Path.{_≡_, sym, _∙_, ap, ap₂}
+use Prim.Native.Nat.{_≤_}
+use mathlib.Core.Path.{_≡_, sym, _∙_, ap}
 use mathlib.Core.Bool.{true, _&&_}
 use native.Mathlib.Omega.{arith}
 use lib.Dec.{leb}
-use borrow.Author.Tests.{leb-true, eq-eqb, ne-eqb}
-use lib.ListN.{length}
+use borrow.Author.Tests.{leb-true}
 use Rattle.common.proofs.Tests.{fails, holds, both-true}
-use Rattle.book.specs.Words.{countOf, width, entryAt}
+use Rattle.book.specs.Words.{entryAt}
 use Rattle.book.specs.Sales.{againAnswer}
 use Rattle.book.specs.Sound.{numberInLimits, soundWords}
 use Rattle.book.proofs.EntryLaws.{IsSound, is-sound}

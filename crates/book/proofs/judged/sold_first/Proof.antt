@@ -1,6 +1,6 @@
 -- `book::judged::sold_first` meets its contract.
 -- Assumes nothing.
-use mathlib.Core.Path.{_≡_, sym, _∙_, ap}
+use mathlib.Core.Path.{sym, _∙_, ap}
 use Rattle.book.specs.declared.Outcome.the-variants.{Booked}
 use Rattle.book.proofs.JudgeLaws.{quote-refused, quote-priced}
 use borrow.Author.Needs.{needs}

@@ -1,10 +1,7 @@
 -- `book::words::question_in` meets its contract: a word for each number of the question, and two for each leg.
 -- Assumes nothing.
-use Prim.Native.Nat.{ℕ}
-use mathlib.Core.Path.{_≡_}
 use mathlib.Core.List.{[], _∷_}
-use native.Mathlib.Omega.{arith}
-use lib.ListN.{length, getD}
+use lib.ListN.{getD}
 use borrow.Author.Needs.{needs}
 use Rattle.book.specs.Words.{questionOf}
 use Rattle.book.proofs.words.question_in.Statement.{statement}

@@ -2,9 +2,8 @@
 -- where the first before it that is for all railways stands.
 -- Assumes nothing.
 use Prim.Native.Nat.{ℕ, _+_, _-_, _≤_}
-use mathlib.Core.Path.{_≡_, refl, sym, _∙_, ap}
+use mathlib.Core.Path.{_≡_, sym, _∙_, ap}
 use mathlib.Core.Bool.{true, false}
-use mathlib.Core.List.{List}
 use native.Mathlib.Omega.{arith}
 use lib.Dec.{eqb}
 use lib.ListN.{length, drop, getD}
@@ -13,7 +12,7 @@ use Rattle.common.specs.Least.{least}
 use Rattle.common.proofs.Least.{start as none-yet, more}
 use Rattle.common.proofs.Parts.{rest-all}
 use Rattle.bundle.specs.Records.{Rec, rec, noRec, stepOf, recordsOf}
-use Rattle.bundle.specs.Choice.{isOwn, isGeneral, ownAt, generalAt}
+use Rattle.bundle.specs.Choice.{ownAt, generalAt}
 use Rattle.bundle.specs.Fits.{fitOf, firstGeneral}
 use Rattle.bundle.specs.declared.walk.Step.the-variants.{Whole}
 use Rattle.bundle.proofs.Here.{Here, bodyOf, here-start, here-at, here-next, room, step-lent, over-lent, over-count, fits-lent}

@@ -5,9 +5,7 @@ use Prim.Native.Nat.{_≤_, _+_}
 use mathlib.Core.List.{[]}
 use native.Mathlib.Omega.{arith}
 use lib.ListN.{length}
-use Rattle.common.proofs.Parts.{rest-all}
-use Rattle.bundle.specs.Records.{recordsOf, stepOf}
-use Rattle.bundle.specs.declared.walk.Step.the-variants.{Whole}
+use Rattle.bundle.specs.Records.{recordsOf}
 use Rattle.bundle.proofs.Here.{here-start, here-at, room, not-whole, over-nil}
 use borrow.Author.Needs.{needs}
 use Rattle.bundle.proofs.keys.first_transferor.Statement.{statement}

@@ -1,17 +1,16 @@
 -- `bundle::passes::first_pass` meets its contract. The loop's invariant: the loop stands at record i, and the pass finds what it finds from there on.
 -- Assumes nothing.
-use Prim.Native.Nat.{ℕ, _+_, _-_, _≤_, _<_}
-use mathlib.Core.Path.{_≡_, refl, sym, _∙_, ap}
+use Prim.Native.Nat.{ℕ, _+_, _-_, _≤_}
+use mathlib.Core.Path.{_≡_, sym, _∙_}
 use mathlib.Core.List.{List}
 use native.Mathlib.Omega.{arith}
-use lib.ListN.{length, drop, getD}
+use lib.ListN.{length, drop}
 use borrow.Author.Needs.{needs}
 use Rattle.common.specs.Checks.{firstFault}
 use Rattle.common.proofs.Parts.{rest-all}
-use Rattle.layout.specs.Layout.{layout, noRow}
 use Rattle.layout.specs.Rules.{brokenRow}
-use Rattle.bundle.specs.Records.{stepOf, recordsOf}
-use Rattle.bundle.specs.Verdict.{judged, firstPass}
+use Rattle.bundle.specs.Records.{stepOf}
+use Rattle.bundle.specs.Verdict.{firstPass}
 use Rattle.bundle.specs.declared.walk.Step.the-variants.{Whole}
 use Rattle.bundle.proofs.Here.{Here, bodyOf, here-start, here-next, room, step-lent, fits-lent}
 use Rattle.bundle.proofs.PassLaws.{firstFrom, first-start, first-unknown, first-short, first-end, field-fault, fields-pass}

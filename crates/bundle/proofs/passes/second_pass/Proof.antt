@@ -1,9 +1,9 @@
 -- `bundle::passes::second_pass` meets its contract. The outer loop stands at record i, and the pass finds what it finds from there on; the inner loop
 -- stands at record j, and record i clashes with none before it.
 -- Assumes nothing.
-use Prim.Native.Nat.{ℕ, _+_, _-_, _≤_, _<_}
-use mathlib.Core.Path.{_≡_, refl, sym, _∙_, ap}
-use mathlib.Core.Bool.{Bool, true, false, not}
+use Prim.Native.Nat.{ℕ, _+_, _-_, _≤_}
+use mathlib.Core.Path.{_≡_, sym, _∙_}
+use mathlib.Core.Bool.{not}
 use mathlib.Core.List.{List, _∷_}
 use native.Mathlib.Omega.{arith}
 use lib.ListN.{length, take, drop, getD}
@@ -14,8 +14,7 @@ use Rattle.common.proofs.Least.{start as none-yet, more, hit}
 use Rattle.common.proofs.Parts.{rest-all}
 use Rattle.bundle.specs.Records.{Rec, rec, noRec, stepOf, recordsOf}
 use Rattle.bundle.specs.Keys.{clash, otherTransferor, earlierOf}
-use Rattle.bundle.specs.Links.{missingLink}
-use Rattle.bundle.specs.Verdict.{judged, secondPass}
+use Rattle.bundle.specs.Verdict.{secondPass}
 use Rattle.bundle.specs.declared.walk.Step.the-variants.{Whole}
 use Rattle.bundle.proofs.Here.{Here, bodyOf, here-start, here-cons, here-below, here-at, here-next, room, step-lent, over-lent, over-nil, over-count, fits-lent}
 use Rattle.bundle.proofs.PassLaws.{secondFrom, second-start, second-end, other-fault, key-fault, link-fault, record-passes, compared}

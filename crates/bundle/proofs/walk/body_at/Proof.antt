@@ -1,10 +1,10 @@
 -- `bundle::walk::body_at` meets its contract.
 -- Assumes nothing.
-use Prim.Native.Nat.{ℕ, _+_, _≤_}
+use Prim.Native.Nat.{ℕ}
 use mathlib.Core.Path.{_≡_, sym, _∙_}
 use mathlib.Core.List.{List}
 use native.Mathlib.Omega.{arith}
-use lib.ListN.{length, drop, length-drop}
+use lib.ListN.{drop, length-drop}
 use Rattle.common.proofs.Parts.{rest-all}
 use Rattle.bundle.specs.Records.{stepOf, bodyAt}
 use Rattle.bundle.specs.declared.walk.Step.the-variants.{Whole}

@@ -1,10 +1,8 @@
 -- `bundle::walk::first_step` meets its contract.
 -- Assumes nothing.
 use Rattle.layout.proofs.Table.{length-most}
-use mathlib.Core.Path.{_∙_, ap}
 use native.Mathlib.Omega.{arith}
 use borrow.Author.Tests.{le-leb, lt-leb, lt-ltb, le-ltb}
-use Rattle.layout.specs.Tables.{lengthOf}
 use Rattle.bundle.specs.Records.{stepOf}
 use borrow.Author.Needs.{needs}
 use Rattle.bundle.proofs.walk.first_step.Statement.{statement}

@@ -1,8 +1,7 @@
 -- `fares::legs::after_card` meets its contract.
 -- Assumes nothing.
 use Rattle.bundle.specs.Choice.{choiceOf}
-use mathlib.Core.Path.{_≡_, sym, _∙_, ap}
-use native.Mathlib.Omega.{arith}
+use mathlib.Core.Path.{sym, _∙_, ap}
 use borrow.Author.Tests.{eq-eqb, ne-eqb}
 use Rattle.bundle.proofs.ChoiceLaws.{chosen-at, not-at}
 use Rattle.bundle.specs.Records.{recordsOf}

@@ -1,14 +1,13 @@
 -- `fares::legs::price_by` meets its contract.
 -- Assumes nothing.
 use Prim.Native.Nat.{_≤_, _*_}
-use mathlib.Core.Path.{_≡_, sym, _∙_, ap}
-use native.Mathlib.Nat.{mul-le-mul}
+use mathlib.Core.Path.{_≡_, ap}
 use native.Mathlib.Omega.{arith}
 use borrow.Author.Tests.{lt-ltb, le-ltb}
 use Rattle.common.specs.Checks.{firstFault}
 use Rattle.common.proofs.Tests.{fails, holds}
 use Rattle.bundle.specs.Records.{recordsOf}
-use Rattle.fares.specs.Reductions.{reduceAll, partBound}
+use Rattle.fares.specs.Reductions.{partBound}
 use Rattle.fares.specs.Legs.{answerBy, partBy}
 use Rattle.fares.specs.declared.legs.Priced.the-variants.{Part}
 use Rattle.fares.proofs.StepLaws.{factor-small, step-small}

@@ -3,7 +3,6 @@
 use mathlib.Core.Path.{_≡_}
 use mathlib.Core.Bool.{true, and-true}
 use Rattle.common.specs.Lists.{every}
-use native.Mathlib.Omega.{arith}
 use borrow.Author.Tests.{leb-true}
 use Rattle.common.proofs.Tests.{fails, holds, both-true}
 use lib.Dec.{leb}

@@ -3,7 +3,6 @@
 use Prim.Native.Nat.{_≤_, _-_, _+_}
 use mathlib.Core.Bool.{_&&_}
 use mathlib.Core.Path.{_≡_, refl, sym, _∙_}
-use mathlib.Core.List.{List}
 use native.Mathlib.Omega.{arith}
 use lib.ListN.{drop, getD}
 use borrow.Author.Needs.{needs}
@@ -11,7 +10,6 @@ use Rattle.common.specs.Lists.{every, firstOf}
 use Rattle.common.proofs.Lists.{every-step, every-end, first-length, first-at}
 use Rattle.common.proofs.Tests.{fails, holds}
 use Rattle.fares.specs.Question.{legInLimits, noLeg}
-use Rattle.fares.specs.declared.Leg.{Leg}
 use Rattle.fares.proofs.limits.legs_in_limits.Statement.{statement}
 use Rattle.fares.proofs.limits.legs_in_limits.Tie as tie
 
