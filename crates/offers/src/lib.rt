@@ -1,4 +1,33 @@
 // The front door: what the engine answers, on one page.
+//
+// Every call checks all that it is lent, in the order of the scope document, and is refused by the first check that fails: with the check's number,
+// place and detail, with every amount zero, and with no word of the book changed. Places and details that are not named are 0.
+//
+//   verdict   1  the bundle has more than 1,048,576 bytes
+//             2  a mark is unknown, or one byte is left: record
+//             3  a record is shorter than its length: record
+//             4  a field breaks its rule: record, field
+//             5  another transferor than the first record's: record
+//             6  a key is repeated: later record, first earlier one
+//             7  a link is missing: record, 1 no RE of the code, 2 no CO, 3 no AR, 4 no ME of the offer
+//   fare      as verdict, then
+//            11  the question is outside its limits
+//            12  no CO of the offer for the railway or for all: leg
+//            13  the day is outside that CO: leg
+//            14  the persons are outside that CO's fields 28 and 29: leg
+//            15  a condition is set that the engine does not read: leg, field
+//            16  the fare is above 4,294,967,295
+//   sale     21  the book is unsound
+//            22  till or sequence is 0 or too large
+//            23  the number is held by another question: entry
+//            24  a new number, and 256 entries; then as fare
+//   cancel   21, 22, and then
+//            25  the number is not in the book
+//   balance  21, and then
+//            11  the railway is not 1 to 9999
+//   total    21
+//
+// crates/offers/specs/Answers.antt says each answer in these numbers and values; crates/offers/proofs/Promises.antt what is proved of them.
 ghost use mathlib.Core.Path.{_≡_};
 ghost use Rattle.bundle.specs.Verdict.{verdictOf};
 ghost use Rattle.fares.specs.Fare.{fareOf};
