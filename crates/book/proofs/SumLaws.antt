@@ -2,20 +2,22 @@
 -- Assumes nothing.
 use Prim.Native.Nat.{ℕ, _+_, _-_, _*_, _≤_, _<_}
 use mathlib.Core.Path.{_≡_, refl, sym, _∙_, ap}
-use mathlib.Core.Bool.{Bool, true, false, cond}
+use mathlib.Core.Bool.{Bool, true, false, cond, _||_}
 use mathlib.Core.List.{List, [], _∷_, map, map-append}
 use native.Mathlib.Numerals.{add-one}
 use native.Mathlib.Omega.{arith}
 use lib.Dec.{eqb, leb}
 use lib.ListN.{length, getD, take, drop, length-take, length-drop}
 use lib.Seq.{getD-take, getD-drop}
-use borrow.Author.Tests.{eq-eqb, ne-eqb, eqb-true, leb-true}
+use borrow.Author.Tests.{ne-eqb, eqb-true, leb-true}
 use Rattle.common.specs.Lists.{sum, upTo}
 use Rattle.common.proofs.Lists.{every-at}
 use Rattle.common.proofs.Sums.{sum-append, sum-up-small}
-use Rattle.book.specs.Words.{Entry, width, questionWidth, capacity, bookLength, countOf, entryOf, entryAt, entries}
+use Rattle.common.proofs.Tests.{both-true}
+use Rattle.fares.specs.Question.{between}
+use Rattle.book.specs.Words.{Entry, width, questionWidth, capacity, bookLength, countOf, railwayAt, entryOf, entryAt, entries}
 use Rattle.book.specs.Sound.{soundWords}
-use Rattle.book.specs.Balances.{legPart, ofRailway, ofAll, liveAmount, balanceOf}
+use Rattle.book.specs.Balances.{ofRailway, ofAll, counted, liveAmount, balanceOf}
 use Rattle.book.proofs.Blocks.{word-at}
 
 -- the largest word
@@ -31,13 +33,27 @@ railway-at b j l =
     let e : 2 + (19 + 4 * j) ≡ 21 + 4 * j = omega arith in
     getD-take questionWidth (drop 2 b) (19 + 4 * j) 0 (omega arith) ∙ (getD-drop 2 b (19 + 4 * j) 0 ∙ ap (λ k. getD b k 0) e)
 
--- what leg j of an entry comes to for a railway: its part if the leg is the railway's, and else nothing
-module _ (b : List ℕ) (railway j : ℕ) (l : j < 8) where
-  pub own-leg : getD b (21 + 4 * j) 0 ≡ railway → legPart railway (entryOf b .asked) (entryOf b .parts) j ≡ getD b (53 + j) 0
-  own-leg e = rw (railway-at b j l, eq-eqb _ _ e) (part-at b j l)
+-- what leg j of an entry comes to for a railway, or for all: its part if it counts, and else nothing
+abbrev pub countedPart : ℕ → List ℕ → List ℕ → ℕ → ℕ
+countedPart railway asked parts j = cond (eqb railway 0 || eqb (getD asked (railwayAt j) 0) railway) (getD parts j 0) 0
 
-  pub other-leg : (getD b (21 + 4 * j) 0 ≡ railway → ⊥) → legPart railway (entryOf b .asked) (entryOf b .parts) j ≡ 0
-  other-leg h = rw (railway-at b j l, ne-eqb _ _ h)
+module _ (b : List ℕ) (railway j : ℕ) (l : j < 8) where
+  pub leg-counts : {c : Bool} → c ≡ (eqb railway 0 || eqb (getD b (21 + 4 * j) 0) railway) → c ≡ true
+      → countedPart railway (entryOf b .asked) (entryOf b .parts) j ≡ getD b (53 + j) 0
+  leg-counts e t = rw (railway-at b j l, sym e ∙ t) (part-at b j l)
+
+  pub leg-counts-not : {c : Bool} → c ≡ (eqb railway 0 || eqb (getD b (21 + 4 * j) 0) railway) → c ≡ false
+      → countedPart railway (entryOf b .asked) (entryOf b .parts) j ≡ 0
+  leg-counts-not e t = rw (railway-at b j l, sym e ∙ t)
+
+-- and over the eight legs
+pub counted-is : (railway : ℕ) (asked parts : List ℕ) → sum (upTo (countedPart railway asked parts) 8) ≡ counted railway asked parts
+counted-is railway asked parts = either (eqb railway 0)
+  where
+    either : (b : Bool) → sum (upTo (λ j. cond (b || eqb (getD asked (railwayAt j) 0) railway) (getD parts j 0) 0) 8)
+        ≡ cond b (ofAll asked parts) (ofRailway railway asked parts)
+    either true = refl
+    either false = refl
 
 -- AN ENTRY'S SHARE of a book is small, since each word is
 cond-small : (t : Bool) (x m : ℕ) → x ≤ m → cond t x 0 ≤ m
@@ -56,13 +72,12 @@ module _ (w : List ℕ) (words-small : (k : ℕ) → getD w k 0 ≤ most) where
   part-small i j l =
       rw (part-at (take width (drop (1 + i * width) w)) j l, word-at w i (53 + j) (omega arith)) (words-small (1 + i * width + (53 + j)))
 
-  pub all-small : Small w ofAll
-  all-small i = sum-up-small (λ j. getD (entryAt w i .parts) j 0) most 8 (part-small i)
-
-  pub railway-small : (railway : ℕ) → Small w (ofRailway railway)
-  railway-small railway i =
-      sum-up-small (legPart railway (entryAt w i .asked) (entryAt w i .parts)) most 8
-      (λ j l. cond-small (eqb (getD (entryAt w i .asked) (19 + 4 * j) 0) railway) (getD (entryAt w i .parts) j 0) most (part-small i j l))
+  pub counted-small : (railway : ℕ) → Small w (counted railway)
+  counted-small railway i =
+      let e = entryAt w i in
+      rw (← counted-is railway (e .asked) (e .parts))
+      (sum-up-small (countedPart railway (e .asked) (e .parts)) most 8
+      (λ j l. cond-small (eqb railway 0 || eqb (getD (e .asked) (railwayAt j) 0) railway) (getD (e .parts) j 0) most (part-small i j l)))
 
 -- A BALANCE: nothing, one entry more
 module _ (f : List ℕ → List ℕ → ℕ) where
@@ -77,6 +92,12 @@ module _ (f : List ℕ → List ℕ → ℕ) where
 
   pub live-small : (w : List ℕ) → Small w f → (i : ℕ) → liveAmount f (entryAt w i) ≤ mostOf
   live-small w s i = cond-small (eqb (entryAt w i .mark) 0) (f (entryAt w i .asked) (entryAt w i .parts)) mostOf (s i)
+
+-- a railway's number is not the one that stands for all
+pub counted-railway : (railway : ℕ) (es : List Entry) → between 1 9999 railway ≡ true → balanceOf (counted railway) es ≡ balanceOf (ofRailway railway) es
+counted-railway railway es h =
+    let l = leb-true 1 railway (both-true (leb 1 railway) (leb railway 9999) h .0) in
+    ap (λ b. balanceOf (λ asked parts. cond b (ofAll asked parts) (ofRailway railway asked parts)) es) (ne-eqb railway 0 (λ e. omega (arith, l, e)))
 
 -- WHAT A SOUND BOOK has: its length, and few enough entries
 sound-at : (w : List ℕ) → soundWords w ≡ true → (eqb (length w) bookLength ≡ true) × (leb (countOf w) capacity ≡ true)

@@ -23,6 +23,10 @@ ofRailway railway asked parts = sum (upTo (legPart railway asked parts) 8)
 abbrev pub ofAll : List ℕ → List ℕ → ℕ
 ofAll asked parts = sum (upTo (λ j. getD parts j 0) 8)
 
+-- by one number: 0 stands for all railways, as it does in the tables
+abbrev pub counted : ℕ → List ℕ → List ℕ → ℕ
+counted railway asked parts = cond (eqb railway 0) (ofAll asked parts) (ofRailway railway asked parts)
+
 -- an entry counts unless it is cancelled
 abbrev pub liveAmount : (List ℕ → List ℕ → ℕ) → Entry → ℕ
 liveAmount f e = cond (eqb (e .mark) 0) (f (e .asked) (e .parts)) 0

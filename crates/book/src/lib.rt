@@ -74,7 +74,7 @@ pub fn balance(book: &[u32], railway: u32) -> Sum
     if !fares::limits::is_railway(railway) {
         return Sum::Refused(11, 0, 0);
     }
-    Sum::Amount(sums::owed_to(book, railway))
+    Sum::Amount(sums::owed(book, railway))
 }
 
 // What all railways are owed.
@@ -84,5 +84,5 @@ pub fn total(book: &[u32]) -> Sum
     if !sound::is_sound(book) {
         return Sum::Refused(21, 0, 0);
     }
-    Sum::Amount(sums::owed_in_all(book))
+    Sum::Amount(sums::owed(book, sums::ALL))
 }

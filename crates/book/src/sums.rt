@@ -1,21 +1,34 @@
 // Sums over the entries that are not cancelled.
 ghost use mathlib.Core.Path.{_≡_};
-ghost use Prim.Native.Nat.{_+_, _*_, _≤_, _<_};
-ghost use mathlib.Core.Bool.{true};
-ghost use lib.ListN.{length, getD};
-ghost use Rattle.book.specs.Words.{width, entryOf, entryAt, entries};
+ghost use mathlib.Core.Bool.{true, _||_};
+ghost use lib.Dec.{eqb};
+ghost use lib.ListN.{length};
+ghost use Rattle.book.specs.Words.{width, entryOf, entries};
 ghost use Rattle.book.specs.Sound.{soundWords};
-ghost use Rattle.book.specs.Balances.{ofRailway, ofAll, liveAmount, balanceOf};
+ghost use Rattle.book.specs.Balances.{counted, liveAmount, balanceOf};
 use super::words::LEG_WIDTH;
 use super::words::MARK;
 use super::words::PARTS;
 use super::words::RAILWAYS;
 use super::words::WIDTH;
 
+// Stands for all railways.
+pub const ALL: u32 = 0;
+
+// Whether a leg counts for a railway.
+fn counts(leg: u32, railway: u32) -> bool
+    ensures { λ r. ⌜ r ≡ (eqb railway 0 || eqb leg railway) ⌝ }
+{
+    if railway == ALL {
+        return true;
+    }
+    leg == railway
+}
+
 // What an entry comes to for a railway, 0 if it is cancelled.
-fn entry_owed_to(words: &[u32], railway: u32) -> u64
+fn entry_owed(words: &[u32], railway: u32) -> u64
     requires { ⌜ length (now words) ≡ width ⌝ }
-    ensures { λ r. ⌜ r ≡ liveAmount (ofRailway railway) (entryOf (now (words .entry))) ⌝ }
+    ensures { λ r. ⌜ r ≡ liveAmount (counted railway) (entryOf (now (words .entry))) ⌝ }
 {
     if words[MARK] != 0 {
         return 0;
@@ -23,7 +36,7 @@ fn entry_owed_to(words: &[u32], railway: u32) -> u64
     let mut sum: u64 = 0;
     let mut j = 0;
     while j < 8 {
-        if words[RAILWAYS + LEG_WIDTH * j] == railway {
+        if counts(words[RAILWAYS + LEG_WIDTH * j], railway) {
             sum += words[PARTS + j] as u64;
         }
         j += 1;
@@ -31,26 +44,10 @@ fn entry_owed_to(words: &[u32], railway: u32) -> u64
     sum
 }
 
-fn entry_owed_in_all(words: &[u32]) -> u64
-    requires { ⌜ length (now words) ≡ width ⌝ }
-    ensures { λ r. ⌜ r ≡ liveAmount ofAll (entryOf (now (words .entry))) ⌝ }
-{
-    if words[MARK] != 0 {
-        return 0;
-    }
-    let mut sum: u64 = 0;
-    let mut j = 0;
-    while j < 8 {
-        sum += words[PARTS + j] as u64;
-        j += 1;
-    }
-    sum
-}
-
 // What a railway is owed over all entries of a sound book.
-pub fn owed_to(book: &[u32], railway: u32) -> u64
+pub fn owed(book: &[u32], railway: u32) -> u64
     requires { ⌜ soundWords (now book) ≡ true ⌝ }
-    ensures { λ r. ⌜ r ≡ balanceOf (ofRailway railway) (entries (now (book .entry))) ⌝ }
+    ensures { λ r. ⌜ r ≡ balanceOf (counted railway) (entries (now (book .entry))) ⌝ }
 {
     let count = book[0] as usize;
     let mut sum: u64 = 0;
@@ -58,23 +55,7 @@ pub fn owed_to(book: &[u32], railway: u32) -> u64
     while i < count {
         let at = 1 + i * WIDTH;
         let end = at + WIDTH;
-        sum += entry_owed_to(&book[at..end], railway);
-        i += 1;
-    }
-    sum
-}
-
-pub fn owed_in_all(book: &[u32]) -> u64
-    requires { ⌜ soundWords (now book) ≡ true ⌝ }
-    ensures { λ r. ⌜ r ≡ balanceOf ofAll (entries (now (book .entry))) ⌝ }
-{
-    let count = book[0] as usize;
-    let mut sum: u64 = 0;
-    let mut i = 0;
-    while i < count {
-        let at = 1 + i * WIDTH;
-        let end = at + WIDTH;
-        sum += entry_owed_in_all(&book[at..end]);
+        sum += entry_owed(&book[at..end], railway);
         i += 1;
     }
     sum

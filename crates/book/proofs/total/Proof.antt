@@ -14,12 +14,12 @@ returns : tie.Need-returns
 unfolding totalAnswer firstFault
 returns c = rw (fails (c .before .is-sound .result) (c .if1 .taken) (c .before .is-sound .ensures))
 
-owed-in-all-requires : tie.Need-owed-in-all-requires
-owed-in-all-requires c κs = holds (c .before .is-sound .result) (c .if1 .left) (c .before .is-sound .ensures)
+owed-requires : tie.Need-owed-requires
+owed-requires c κs = holds (c .before .is-sound .result) (c .if1 .left) (c .before .is-sound .ensures)
 
 returns-2 : tie.Need-returns-2
 unfolding totalAnswer firstFault
-returns-2 c = let e = c .before in rw (holds (e .before .is-sound .result) (e .if1 .left) (e .before .is-sound .ensures), c .owed-in-all .ensures)
+returns-2 c = let e = c .before in rw (holds (e .before .is-sound .result) (e .if1 .left) (e .before .is-sound .ensures), c .owed .ensures)
 
 pub total-spec : {M : Type 1} → statement M
-total-spec = tie.close (tie.spec is-sound-requires returns owed-in-all-requires returns-2)
+total-spec = tie.close (tie.spec is-sound-requires returns owed-requires returns-2)

@@ -1,4 +1,4 @@
--- `book::sums::owed_in_all` meets its contract. The loop's invariant: the sum is the balance of the entries before i, each of them small.
+-- `book::sums::owed` meets its contract. The loop's invariant: the sum is the balance of the entries before i, each of them small.
 -- Assumes nothing.
 use Prim.Native.Nat.{ℕ, _+_, _-_, _≤_}
 use mathlib.Core.Path.{_≡_}
@@ -6,16 +6,16 @@ use native.Mathlib.Omega.{arith}
 use lib.ListN.{length, getD}
 use borrow.Author.Needs.{needs}
 use Rattle.book.specs.Words.{bookLength, capacity, countOf}
-use Rattle.book.specs.Balances.{ofAll}
-use Rattle.book.proofs.SumLaws.{most, all-small, sound-length, sound-count, block-length, Summed, sum-start, sum-turn, sum-end}
-use Rattle.book.proofs.sums.owed_in_all.Statement.{statement}
-use Rattle.book.proofs.sums.owed_in_all.Tie as tie
+use Rattle.book.specs.Balances.{counted}
+use Rattle.book.proofs.SumLaws.{most, counted-small, sound-length, sound-count, block-length, Summed, sum-start, sum-turn, sum-end}
+use Rattle.book.proofs.sums.owed.Statement.{statement}
+use Rattle.book.proofs.sums.owed.Tie as tie
 
 abbrev Inv-loop : tie.InvT-loop
-Inv-loop book count total₀ i₀ total i = (i ≤ count) × Summed ofAll book i total
+Inv-loop book railway count total₀ i₀ total i = (i ≤ count) × Summed (counted railway) book i total
 
 abbrev μ-loop : tie.MeasureT-loop
-μ-loop book count total₀ i₀ total i = count - i
+μ-loop book railway count total₀ i₀ total i = count - i
 
 long : (c : tie.Start Inv-loop μ-loop) → length (c .args .book .now) ≡ bookLength
 long c = sound-length (c .args .book .now) (c .pre)
@@ -27,12 +27,13 @@ few l = sound-count (l .before .before .before .args .book .now) (l .before .bef
 small : (l : tie.At-loop Inv-loop μ-loop) (k : ℕ) → getD (l .before .before .before .args .book .now) k 0 ≤ most
 small l k = omega (arith, l .before .before .shared-slice-known .given k)
 
-turned : (c : tie.After-entry-owed-in-all Inv-loop μ-loop) → let l = c .before .before .before in
-    Summed ofAll (l .before .before .before .args .book .now) (l .loop .i + 1) (l .loop .sum + c .entry-owed-in-all .result)
+turned : (c : tie.After-entry-owed Inv-loop μ-loop) → let l = c .before .before .before in
+    Summed (counted (l .before .before .before .args .railway)) (l .before .before .before .args .book .now) (l .loop .i + 1) (l .loop .sum + c .entry-owed .result)
 turned c =
     let l = c .before .before .before in
-    let w = l .before .before .before .args .book .now in
-    sum-turn ofAll w (all-small w (small l)) (l .loop .i) (l .loop .sum) (c .entry-owed-in-all .result) (l .loop .inv .1) (c .entry-owed-in-all .ensures)
+    let a = l .before .before .before .args in
+    let w = a .book .now in
+    sum-turn (counted (a .railway)) w (counted-small w (small l) (a .railway)) (l .loop .i) (l .loop .sum) (c .entry-owed .result) (l .loop .inv .1) (c .entry-owed .ensures)
 
 shared-slice-read-count : tie.Need-shared-slice-read-count Inv-loop μ-loop
 shared-slice-read-count c = omega (arith, long (c .before .before))
@@ -41,7 +42,7 @@ cast-count : tie.Need-cast-count Inv-loop μ-loop
 cast-count c = omega (arith, c .before .shared-slice-known .given 0)
 
 loop-holds : tie.Need-loop-holds Inv-loop μ-loop
-loop-holds c = (omega arith, sum-start ofAll (c .before .before .args .book .now))
+loop-holds c = (omega arith, sum-start (counted (c .before .before .args .railway)) (c .before .before .args .book .now))
 
 mul-at : tie.Need-mul-at Inv-loop μ-loop
 mul-at c = omega (arith, few (c .before))
@@ -52,23 +53,23 @@ add-at c = omega (arith, few (c .before))
 add-end : tie.Need-add-end Inv-loop μ-loop
 add-end c = omega (arith, few (c .before))
 
-mul-entry-owed-in-all : tie.Need-mul-entry-owed-in-all Inv-loop μ-loop
-mul-entry-owed-in-all c = omega (arith, few (c .before))
+mul-entry-owed : tie.Need-mul-entry-owed Inv-loop μ-loop
+mul-entry-owed c = omega (arith, few (c .before))
 
-sub-entry-owed-in-all : tie.Need-sub-entry-owed-in-all Inv-loop μ-loop
-sub-entry-owed-in-all c = omega arith
+sub-entry-owed : tie.Need-sub-entry-owed Inv-loop μ-loop
+sub-entry-owed c = omega arith
 
-part-entry-owed-in-all-start : tie.Need-part-entry-owed-in-all-start Inv-loop μ-loop
-part-entry-owed-in-all-start c = search needs
+part-entry-owed-start : tie.Need-part-entry-owed-start Inv-loop μ-loop
+part-entry-owed-start c = search needs
 
-part-entry-owed-in-all-end : tie.Need-part-entry-owed-in-all-end Inv-loop μ-loop
-part-entry-owed-in-all-end c =
+part-entry-owed-end : tie.Need-part-entry-owed-end Inv-loop μ-loop
+part-entry-owed-end c =
     let n = few (c .before) in
     let m = long (c .before .before .before .before) in
     search needs
 
-entry-owed-in-all-requires : tie.Need-entry-owed-in-all-requires Inv-loop μ-loop
-entry-owed-in-all-requires c κs =
+entry-owed-requires : tie.Need-entry-owed-requires Inv-loop μ-loop
+entry-owed-requires c κs =
     let l = c .before .before in
     block-length (l .before .before .before .args .book .now) (l .loop .i) (omega (arith, few l, long (l .before .before .before)))
 
@@ -87,10 +88,11 @@ loop-again c = (omega arith, turned c)
 returns : tie.Need-returns Inv-loop μ-loop
 returns c =
     let l = c .before in
-    sum-end ofAll (l .before .before .before .args .book .now) (l .loop .i) (l .loop .sum) (omega arith) (l .loop .inv .1)
+    let a = l .before .before .before .args in
+    sum-end (counted (a .railway)) (a .book .now) (l .loop .i) (l .loop .sum) (omega arith) (l .loop .inv .1)
 
-pub owed-in-all-spec : {M : Type 1} → statement M
-owed-in-all-spec =
+pub owed-spec : {M : Type 1} → statement M
+owed-spec =
     tie.close
     (tie.spec
     Inv-loop
@@ -101,11 +103,11 @@ owed-in-all-spec =
     mul-at
     add-at
     add-end
-    mul-entry-owed-in-all
-    sub-entry-owed-in-all
-    part-entry-owed-in-all-start
-    part-entry-owed-in-all-end
-    entry-owed-in-all-requires
+    mul-entry-owed
+    sub-entry-owed
+    part-entry-owed-start
+    part-entry-owed-end
+    entry-owed-requires
     add-sum
     add-i
     loop-less
