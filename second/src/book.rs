@@ -199,9 +199,9 @@ fn check_sale_number(till: u64, sequence: u64) -> Result<(), Refusal> {
 #[cfg(test)]
 mod tests {
     use super::*;
-    use crate::fare::Leg;
     use crate::generate::drafts::{assemble, Draft};
     use crate::layout::{co, Table};
+    use crate::question::{asked, NO_CARD};
 
     fn bundle() -> Vec<u8> {
         assemble(&[
@@ -220,22 +220,7 @@ mod tests {
     }
 
     fn two_legs() -> Question {
-        let mut question = Question {
-            offer: 42,
-            day: 20240615,
-            persons: 3,
-            leg_count: 2,
-            ..Question::default()
-        };
-        question.legs[0] = Leg {
-            railway: 1185,
-            fare: 1010,
-        };
-        question.legs[1] = Leg {
-            railway: 1181,
-            fare: 500,
-        };
-        question
+        asked(3, NO_CARD, &[(1185, 1010), (1181, 500)])
     }
 
     const PARTS: Parts = [2274, 1500, 0, 0, 0, 0, 0, 0];

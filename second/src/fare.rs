@@ -34,37 +34,71 @@ pub fn fare(bundle: &[u8], question: &Question) -> Fare {
 }
 
 pub fn priced_parts(bundle: &[u8], question: &Question) -> Result<Parts, Refusal> {
+    let mut parts = Parts::default();
+    for (part, leg) in parts.iter_mut().zip(priced_legs(bundle, question)?) {
+        *part = leg.part;
+    }
+    Ok(parts)
+}
+
+/// Which record of an offer is used: the railway's own or the one of 0000.
+#[derive(Clone, Copy, Debug, PartialEq, Eq)]
+pub enum Source {
+    Own,
+    Default,
+}
+
+#[derive(Clone, Copy, Debug, PartialEq, Eq)]
+pub enum CardUse {
+    None,
+    OutsideItsDays,
+    Reduces(Source, Reduction),
+}
+
+/// A leg's part and how it came about.
+#[derive(Clone, Copy, Debug, PartialEq, Eq)]
+pub struct PricedLeg {
+    pub part: u64,
+    pub source: Source,
+    pub reduction: Reduction,
+    pub card: CardUse,
+}
+
+pub fn priced_legs(bundle: &[u8], question: &Question) -> Result<Vec<PricedLeg>, Refusal> {
     let records = accepted_records(bundle)?;
     if !question.is_within_limits() {
         return Err(Refusal::of_call(11));
     }
-    let parts = parts_of_legs(&Tariff::of(&records), question)?;
-    if parts.iter().sum::<u64>() > LARGEST_FARE {
+    let tariff = Tariff::of(&records);
+    let mut legs = Vec::new();
+    for (place, leg) in question.used_legs().iter().enumerate() {
+        let priced = price_leg(&tariff, question, leg)
+            .map_err(|fault| Refusal::new(fault.number(), place as u64, fault.detail()))?;
+        legs.push(priced);
+    }
+    if legs.iter().map(|leg| leg.part).sum::<u64>() > LARGEST_FARE {
         return Err(Refusal::of_call(16));
     }
-    Ok(parts)
+    Ok(legs)
 }
 
-fn parts_of_legs(tariff: &Tariff, question: &Question) -> Result<Parts, Refusal> {
-    let mut parts = Parts::default();
-    for (place, leg) in question.used_legs().iter().enumerate() {
-        parts[place] = part_of_leg(tariff, question, leg)
-            .map_err(|fault| Refusal::new(fault.number(), place as u64, fault.detail()))?;
-    }
-    Ok(parts)
-}
-
-fn part_of_leg(tariff: &Tariff, question: &Question, leg: &Leg) -> Result<u64, LegFault> {
-    let conditions = tariff
+fn price_leg(tariff: &Tariff, question: &Question, leg: &Leg) -> Result<PricedLeg, LegFault> {
+    let (source, conditions) = tariff
         .conditions(question.offer, leg.railway)
         .ok_or(LegFault::NoConditions)?;
     conditions.check(question)?;
     let reduced = conditions.reduction.apply(leg.fare);
-    let per_person = match tariff.card_reduction(conditions, question, leg) {
-        Some(reduction) => reduction.apply(reduced),
-        None => reduced,
+    let card = tariff.card_use(conditions, question, leg);
+    let per_person = match card {
+        CardUse::Reduces(_, reduction) => reduction.apply(reduced),
+        CardUse::None | CardUse::OutsideItsDays => reduced,
     };
-    Ok(per_person * question.persons)
+    Ok(PricedLeg {
+        part: per_person * question.persons,
+        source,
+        reduction: conditions.reduction,
+        card,
+    })
 }
 
 enum LegFault {
@@ -203,30 +237,29 @@ impl Tariff {
         }
     }
 
-    fn conditions(&self, offer: u64, railway: u64) -> Option<&Conditions> {
-        [railway, EVERY_RAILWAY]
-            .iter()
-            .find_map(|&place| self.conditions.get(&(offer, place)))
+    fn conditions(&self, offer: u64, railway: u64) -> Option<(Source, &Conditions)> {
+        own_or_default(railway, |place| self.conditions.get(&(offer, place)))
     }
 
-    fn card_reduction(
-        &self,
-        conditions: &Conditions,
-        question: &Question,
-        leg: &Leg,
-    ) -> Option<Reduction> {
+    fn card_use(&self, conditions: &Conditions, question: &Question, leg: &Leg) -> CardUse {
         if !conditions.allows_card || question.card == NO_CARD {
-            return None;
+            return CardUse::None;
         }
-        [leg.railway, EVERY_RAILWAY]
-            .iter()
-            .find_map(|&place| {
-                self.card_discounts
-                    .get(&(question.offer, place, question.card))
-            })
-            .filter(|discount| discount.period.holds(question.day))
-            .map(|discount| discount.reduction)
+        let (offer, card) = (question.offer, question.card);
+        let found = own_or_default(leg.railway, |place| {
+            self.card_discounts.get(&(offer, place, card))
+        });
+        match found {
+            None => CardUse::None,
+            Some((_, discount)) if !discount.period.holds(question.day) => CardUse::OutsideItsDays,
+            Some((source, discount)) => CardUse::Reduces(source, discount.reduction),
+        }
     }
+}
+
+fn own_or_default<T>(railway: u64, find: impl Fn(u64) -> Option<T>) -> Option<(Source, T)> {
+    let own = find(railway).map(|record| (Source::Own, record));
+    own.or_else(|| find(EVERY_RAILWAY).map(|record| (Source::Default, record)))
 }
 
 #[cfg(test)]
@@ -234,6 +267,7 @@ mod tests {
     use super::*;
     use crate::generate::drafts::{assemble, Draft};
     use crate::layout::{me, re};
+    use crate::question::asked;
 
     fn conditions(railway: &str) -> Draft {
         Draft::plain(Table::Co)
@@ -255,21 +289,6 @@ mod tests {
 
     fn card_type() -> Draft {
         Draft::plain(Table::Re).with(re::CODE, "007")
-    }
-
-    fn asked(persons: u64, card: u64, legs: &[(u64, u64)]) -> Question {
-        let mut question = Question {
-            offer: 42,
-            day: 20240615,
-            persons,
-            card,
-            leg_count: legs.len() as u64,
-            ..Question::default()
-        };
-        for (slot, &(railway, fare)) in question.legs.iter_mut().zip(legs) {
-            *slot = Leg { railway, fare };
-        }
-        question
     }
 
     fn total(drafts: &[Draft], question: &Question) -> u64 {

@@ -1,5 +1,6 @@
 //! Independent second program, rendering document 01 as a whole, one module per section.
 
+pub mod against;
 pub mod book;
 pub mod bundle;
 pub mod calendar;

@@ -1,15 +1,17 @@
-//! Renders "The verdict program", and writes corpora of bundles with their verdicts.
+//! Renders "The verdict program", writes corpora of bundles, and holds the built library to the second program.
 
 use std::fs;
 use std::io::{self, Read, Write};
 use std::path::Path;
 use std::process::ExitCode;
 
+use second::against;
 use second::generate::corpus::{Corpus, Coverage, FULL_CORPUS};
 use second::program::{library_line, line, program_line};
 use second::verdict::verdict;
 
-const USAGE: &str = "usage: second verdict | second program | second bundles SEED COUNT DIR";
+const USAGE: &str = "usage: second verdict | second program | second bundles SEED COUNT DIR
+  | second against SEED COUNT DIR -- DRIVER.. | second replay FILE -- DRIVER..";
 
 fn main() -> ExitCode {
     let arguments: Vec<String> = std::env::args().skip(1).collect();
@@ -21,6 +23,11 @@ fn main() -> ExitCode {
             (Ok(seed), Ok(count)) => bundles(seed, count, Path::new(folder)),
             _ => fail(USAGE),
         },
+        ["against", seed, count, folder, "--", ..] => match (seed.parse(), count.parse()) {
+            (Ok(seed), Ok(count)) => against(seed, count, Path::new(folder), &arguments[5..]),
+            _ => fail(USAGE),
+        },
+        ["replay", file, "--", ..] => replay(Path::new(file), &arguments[3..]),
         _ => fail(USAGE),
     }
 }
@@ -42,6 +49,30 @@ fn say(line: &str) -> ExitCode {
 fn fail(message: &str) -> ExitCode {
     let _ = writeln!(io::stderr(), "{message}");
     ExitCode::FAILURE
+}
+
+fn against(seed: u64, count: u64, folder: &Path, driver: &[String]) -> ExitCode {
+    let outcome = match against::run(seed, count, folder, driver) {
+        Ok(outcome) => outcome,
+        Err(error) => return fail(&error.to_string()),
+    };
+    let (passed, failed) = (outcome.passed, outcome.failed);
+    let said = say(&format!(
+        "{}{passed} passed, {failed} failed",
+        outcome.table
+    ));
+    if failed > 0 {
+        return ExitCode::FAILURE;
+    }
+    said
+}
+
+fn replay(file: &Path, driver: &[String]) -> ExitCode {
+    match against::replay(file, driver) {
+        Ok((text, true)) => say(text.trim_end()),
+        Ok((text, false)) => fail(text.trim_end()),
+        Err(error) => fail(&format!("{}: {error}", file.display())),
+    }
 }
 
 fn bundles(seed: u64, count: u64, folder: &Path) -> ExitCode {

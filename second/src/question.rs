@@ -65,28 +65,29 @@ pub fn is_railway(number: u64) -> bool {
     (1..=LARGEST_RAILWAY).contains(&number)
 }
 
+/// Asks for offer 42 on a day of 2024, which the plain records serve.
+#[cfg(test)]
+pub fn asked(persons: u64, card: u64, legs: &[(u64, u64)]) -> Question {
+    let mut question = Question {
+        offer: 42,
+        day: 20240615,
+        persons,
+        card,
+        leg_count: legs.len() as u64,
+        ..Question::default()
+    };
+    for (slot, &(railway, fare)) in question.legs.iter_mut().zip(legs) {
+        *slot = Leg { railway, fare };
+    }
+    question
+}
+
 #[cfg(test)]
 mod tests {
     use super::*;
 
     fn good() -> Question {
-        let mut question = Question {
-            offer: 42,
-            day: 20240615,
-            persons: 3,
-            card: 7,
-            leg_count: 2,
-            ..Question::default()
-        };
-        question.legs[0] = Leg {
-            railway: 1185,
-            fare: 1010,
-        };
-        question.legs[1] = Leg {
-            railway: 1181,
-            fare: 0,
-        };
-        question
+        asked(3, 7, &[(1185, 1010), (1181, 0)])
     }
 
     fn within(change: impl Fn(&mut Question)) -> bool {

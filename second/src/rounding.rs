@@ -67,20 +67,26 @@ mod tests {
         Reduction { discount, rounding }.apply(amount)
     }
 
-    #[test]
-    fn figures_for_1010_at_a_quarter_off() {
-        assert_eq!(reduced(1010, 25_000, b'N', 0), 758);
-        assert_eq!(reduced(1010, 25_000, b'+', 10), 760);
-        assert_eq!(reduced(1010, 25_000, b'-', 10), 750);
-        assert_eq!(reduced(1010, 25_000, b'0', 5), 760);
-        assert_eq!(reduced(1010, 25_000, b'0', 50), 750);
+    /// Each case: amount, discount, rounding, factor and what is due.
+    fn assert_reduced(cases: &[(u64, u64, u8, u64, u64)]) {
+        for &(amount, discount, byte, factor, due) in cases {
+            let told = reduced(amount, discount, byte, factor);
+            assert_eq!(told, due, "{amount} at {discount}");
+        }
     }
 
     #[test]
-    fn figures_for_760_at_thirty_percent_off() {
-        assert_eq!(reduced(760, 30_000, b'+', 50), 550);
-        assert_eq!(reduced(760, 30_000, b'-', 50), 500);
-        assert_eq!(reduced(760, 30_000, b'N', 999), 532);
+    fn figures_of_the_document() {
+        assert_reduced(&[
+            (1010, 25_000, b'N', 0, 758),
+            (1010, 25_000, b'+', 10, 760),
+            (1010, 25_000, b'-', 10, 750),
+            (1010, 25_000, b'0', 5, 760),
+            (1010, 25_000, b'0', 50, 750),
+            (760, 30_000, b'+', 50, 550),
+            (760, 30_000, b'-', 50, 500),
+            (760, 30_000, b'N', 999, 532),
+        ]);
     }
 
     #[test]
@@ -118,14 +124,16 @@ mod tests {
 
     #[test]
     fn halves_go_up() {
-        assert_eq!(reduced(1, 50_000, b'N', 0), 1);
-        assert_eq!(reduced(1, 50_001, b'N', 0), 0);
-        assert_eq!(reduced(5, 0, b'0', 10), 10);
-        assert_eq!(reduced(4, 0, b'0', 10), 0);
-        assert_eq!(reduced(25, 0, b'0', 50), 50);
-        assert_eq!(reduced(24, 0, b'0', 50), 0);
-        assert_eq!(reduced(1, 0, b'0', 3), 0);
-        assert_eq!(reduced(2, 0, b'0', 3), 3);
+        assert_reduced(&[
+            (1, 50_000, b'N', 0, 1),
+            (1, 50_001, b'N', 0, 0),
+            (5, 0, b'0', 10, 10),
+            (4, 0, b'0', 10, 0),
+            (25, 0, b'0', 50, 50),
+            (24, 0, b'0', 50, 0),
+            (1, 0, b'0', 3, 0),
+            (2, 0, b'0', 3, 3),
+        ]);
     }
 
     #[test]

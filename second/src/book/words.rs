@@ -167,11 +167,11 @@ fn write_back(words: &mut [u32], book: &Book) {
 #[cfg(test)]
 mod tests {
     use super::*;
-    use crate::fare::Leg;
     use crate::generate::books::{full_book, sound_book, sound_book_of, BookDefect};
     use crate::generate::drafts::{assemble, Draft};
     use crate::generate::random::Random;
     use crate::layout::Table;
+    use crate::question::asked;
     use crate::refusal::Refusal;
 
     #[test]
@@ -259,18 +259,8 @@ mod tests {
         let before = words_of_book(&book).unwrap();
         let mut words = before.clone();
         let bundle = assemble(&[Draft::plain(Table::Co)]);
-        let mut question = Question {
-            offer: 42,
-            day: 20240615,
-            persons: 3,
-            card: 999,
-            leg_count: 1,
-            ..Question::default()
-        };
-        question.legs = [Leg {
-            railway: 1185,
-            fare: 500,
-        }; LEG_SLOTS];
+        let mut question = asked(3, 999, &[(1185, 500)]);
+        question.legs = [question.legs[0]; LEG_SLOTS];
         let sequence = (1..)
             .find(|&free| book.place_of(2, free).is_none())
             .unwrap();

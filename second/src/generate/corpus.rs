@@ -184,7 +184,7 @@ impl Coverage {
     }
 }
 
-fn every_row() -> impl Iterator<Item = (Table, u64)> {
+pub fn every_row() -> impl Iterator<Item = (Table, u64)> {
     Table::ALL.into_iter().flat_map(|table| {
         table
             .rows()

@@ -75,7 +75,7 @@ pub fn history(random: &mut Random, length: usize) -> History {
 }
 
 /// Two good bundles, perhaps empty ones, and one of any kind.
-fn drawn_bundles(random: &mut Random) -> Vec<Vec<u8>> {
+pub fn drawn_bundles(random: &mut Random) -> Vec<Vec<u8>> {
     vec![
         valid_bundle(random),
         valid_bundle(random),
@@ -83,7 +83,7 @@ fn drawn_bundles(random: &mut Random) -> Vec<Vec<u8>> {
     ]
 }
 
-fn any_bundle(random: &mut Random) -> Vec<u8> {
+pub fn any_bundle(random: &mut Random) -> Vec<u8> {
     if random.one_in(30) {
         return vec![b'X'; LONGEST_BUNDLE + 1];
     }
@@ -91,7 +91,7 @@ fn any_bundle(random: &mut Random) -> Vec<u8> {
     Corpus::of_seed(seed).bundle(random.below(499))
 }
 
-fn starting_book(random: &mut Random) -> Vec<u32> {
+pub fn starting_book(random: &mut Random) -> Vec<u32> {
     let words = |book: Book| words_of_book(&book).expect("a sound book fits its words");
     match random.below(12) {
         0 => malformed_book(random),
@@ -105,7 +105,7 @@ fn starting_book(random: &mut Random) -> Vec<u32> {
     }
 }
 
-fn drawn_step(random: &mut Random, known: &Book, bundles: &[Vec<u8>]) -> Step {
+pub fn drawn_step(random: &mut Random, known: &Book, bundles: &[Vec<u8>]) -> Step {
     match random.below(20) {
         0..=6 => new_sale(random, bundles),
         7..=9 => repeated_sale(random, known, bundles),

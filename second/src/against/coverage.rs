@@ -1,0 +1,234 @@
+//! Renders "Numbers that turn work away" as a table of what a run has met.
+
+use std::collections::BTreeMap;
+use std::fmt::Write;
+
+use super::cases::kinds_of_malformed_books;
+use super::wire::{outcome, Answer, Call, Lent, Name};
+use crate::bundle::{readable_records, LONGEST_BUNDLE};
+use crate::fare::{priced_legs, CardUse, PricedLeg, Source};
+use crate::generate::corpus::every_row;
+use crate::layout::{co, Table};
+use crate::question::LEG_SLOTS;
+use crate::rounding::{Reduction, Rounding};
+
+const ANSWERED: &str = "answered";
+const LINK: &str = "7, detail";
+const UNREAD: &str = "15, field";
+const OUTCOME: &str = "outcome";
+const CO_ROUNDING: &str = "rounding by CO";
+const AR_ROUNDING: &str = "rounding by AR";
+const CO_SOURCE: &str = "CO used";
+const AR_SOURCE: &str = "AR used";
+const BUNDLE_BYTES: &str = "bundle bytes";
+const TILL: &str = "till";
+const SEQUENCE: &str = "sequence";
+const LEG_COUNT: &str = "leg count";
+const RAILWAY: &str = "railway asked";
+const UNUSED_LEGS: &str = "unused legs";
+const MALFORMED: &str = "malformed book";
+const WIDEST_LINE: usize = 110;
+
+type Point = (String, String);
+
+#[derive(Default)]
+pub struct Coverage {
+    times: BTreeMap<Point, u64>,
+}
+
+impl Coverage {
+    fn meet(&mut self, group: &str, item: impl ToString) {
+        let point = (group.to_string(), item.to_string());
+        *self.times.entry(point).or_default() += 1;
+    }
+
+    pub fn note_malformed(&mut self, kind: &str) {
+        self.meet(MALFORMED, kind);
+    }
+
+    pub fn note(&mut self, call: &Call, lent: &Lent, answer: &Answer) {
+        self.note_arguments(call, lent);
+        if answer.number != 0 {
+            self.meet(call.name.word(), answer.number);
+            return self.note_detail(lent, answer);
+        }
+        self.meet(call.name.word(), ANSWERED);
+        self.note_outcome(answer);
+        let is_priced = call.name == Name::Fare || answer.outcome == outcome::BOOKED;
+        if is_priced {
+            self.note_pricing(call, lent);
+        }
+    }
+
+    fn note_arguments(&mut self, call: &Call, lent: &Lent) {
+        if call.name == Name::Verdict {
+            self.meet(BUNDLE_BYTES, lent.bundle.len());
+        }
+        if matches!(call.name, Name::Sale | Name::Cancel) {
+            self.meet(TILL, call.till);
+            self.meet(SEQUENCE, call.sequence);
+        }
+        if matches!(call.name, Name::Fare | Name::Sale) {
+            self.meet(LEG_COUNT, call.question.leg_count);
+        }
+        if call.name == Name::Balance {
+            self.meet(RAILWAY, call.railway);
+        }
+    }
+
+    fn note_detail(&mut self, lent: &Lent, answer: &Answer) {
+        match answer.number {
+            4 => {
+                let table = readable_records(lent.bundle)[answer.place as usize].table;
+                self.meet(&field_group(table), answer.detail);
+            }
+            7 => self.meet(LINK, answer.detail),
+            15 => self.meet(UNREAD, answer.detail),
+            _ => (),
+        }
+    }
+
+    fn note_outcome(&mut self, answer: &Answer) {
+        match (answer.outcome, answer.cancelled) {
+            (outcome::BOOKED, _) => self.meet(OUTCOME, "booked"),
+            (outcome::ALREADY_BOOKED, 0) => self.meet(OUTCOME, "already booked, live"),
+            (outcome::ALREADY_BOOKED, _) => self.meet(OUTCOME, "already booked, cancelled"),
+            (outcome::CANCELLED, _) => self.meet(OUTCOME, "cancelled"),
+            (outcome::ALREADY_CANCELLED, _) => self.meet(OUTCOME, "already cancelled"),
+            _ => (),
+        }
+    }
+
+    fn note_pricing(&mut self, call: &Call, lent: &Lent) {
+        let question = &call.question;
+        if *question != question.with_unused_slots_zero() {
+            self.meet(UNUSED_LEGS, "filled, and priced");
+        }
+        for leg in priced_legs(lent.bundle, question).unwrap_or_default() {
+            self.note_leg(&leg);
+        }
+    }
+
+    fn note_leg(&mut self, leg: &PricedLeg) {
+        self.meet(CO_ROUNDING, letter(&leg.reduction));
+        self.meet(CO_SOURCE, source(leg.source));
+        match leg.card {
+            CardUse::None => (),
+            CardUse::OutsideItsDays => self.meet(AR_SOURCE, "outside its days"),
+            CardUse::Reduces(from, reduction) => {
+                self.meet(AR_ROUNDING, letter(&reduction));
+                self.meet(AR_SOURCE, source(from));
+            }
+        }
+    }
+
+    fn times_of(&self, point: &Point) -> u64 {
+        self.times.get(point).copied().unwrap_or(0)
+    }
+
+    pub fn gaps(&self) -> Vec<String> {
+        every_point()
+            .iter()
+            .filter(|point| self.times_of(point) == 0)
+            .map(|(group, item)| format!("{group}: {item}"))
+            .collect()
+    }
+
+    /// Each item with how often it was met, grouped.
+    pub fn table(&self) -> String {
+        let mut table = String::new();
+        let mut group = String::new();
+        let mut width = 0;
+        for point in every_point() {
+            let cell = format!("{} x{}", point.1, self.times_of(&point));
+            if point.0 != group || width + cell.len() > WIDEST_LINE {
+                let head = if point.0 == group { "" } else { &point.0 };
+                let _ = write!(table, "\n{head:16}");
+                width = 16;
+            }
+            let _ = write!(table, "  {cell}");
+            width += 2 + cell.len();
+            group = point.0;
+        }
+        table.push_str("\n16                never met, as no fare is above 793580040\n");
+        table.trim_start().to_string()
+    }
+}
+
+fn field_group(table: Table) -> String {
+    format!("4 in {}, field", table.mark())
+}
+
+fn letter(reduction: &Reduction) -> &'static str {
+    match reduction.rounding {
+        Rounding::Up(_) => "+",
+        Rounding::Down(_) => "-",
+        Rounding::Nearest(_) => "0",
+        Rounding::NearestCent => "N",
+    }
+}
+
+fn source(source: Source) -> &'static str {
+    match source {
+        Source::Own => "own",
+        Source::Default => "0000",
+    }
+}
+
+fn numbers_of(name: Name) -> &'static [u64] {
+    match name {
+        Name::Verdict => &[1, 2, 3, 4, 5, 6, 7],
+        Name::Fare => &[1, 2, 3, 4, 5, 6, 7, 11, 12, 13, 14, 15],
+        Name::Sale => &[1, 2, 3, 4, 5, 6, 7, 11, 12, 13, 14, 15, 21, 22, 23, 24],
+        Name::Cancel => &[21, 22, 25],
+        Name::Balance => &[11, 21],
+        Name::Total => &[21],
+    }
+}
+
+/// All that a full run must meet, in the order of the table.
+fn every_point() -> Vec<Point> {
+    let mut points = Vec::new();
+    let mut add = |group: &str, items: &[String]| {
+        points.extend(items.iter().map(|item| (group.to_string(), item.clone())));
+    };
+    for name in Name::ALL {
+        add(name.word(), &[ANSWERED.to_string()]);
+        add(name.word(), &texts(numbers_of(name)));
+    }
+    for (table, field) in every_row() {
+        add(&field_group(table), &[field.to_string()]);
+    }
+    add(LINK, &texts(&[1, 2, 3, 4]));
+    add(UNREAD, &texts(&co::UNREAD_CONDITIONS));
+    let outcomes = [
+        "booked",
+        "already booked, live",
+        "already booked, cancelled",
+        "cancelled",
+        "already cancelled",
+    ];
+    add(OUTCOME, &texts(&outcomes));
+    add(CO_ROUNDING, &texts(&["+", "-", "0", "N"]));
+    add(AR_ROUNDING, &texts(&["+", "-", "0", "N"]));
+    add(CO_SOURCE, &texts(&["own", "0000"]));
+    add(AR_SOURCE, &texts(&["own", "0000", "outside its days"]));
+    add(
+        BUNDLE_BYTES,
+        &texts(&[0, LONGEST_BUNDLE, LONGEST_BUNDLE + 1]),
+    );
+    add(TILL, &texts(&[0, 65_535, 65_536, u32::MAX]));
+    add(SEQUENCE, &texts(&[0, (1 << 32) - 1, 1 << 32, u64::MAX]));
+    add(
+        LEG_COUNT,
+        &texts(&[0, LEG_SLOTS, LEG_SLOTS + 1, u32::MAX as usize]),
+    );
+    add(RAILWAY, &texts(&[0, 9999, 10_000, u32::MAX]));
+    add(UNUSED_LEGS, &texts(&["filled, and priced"]));
+    add(MALFORMED, &kinds_of_malformed_books());
+    points
+}
+
+fn texts(items: &[impl ToString]) -> Vec<String> {
+    items.iter().map(ToString::to_string).collect()
+}
