@@ -13,12 +13,12 @@ use crate::generate::corpus::{every_row, Corpus};
 use crate::generate::damage::with_broken_field;
 use crate::generate::drafts::{assemble, Draft};
 use crate::generate::histories::{any_bundle, drawn_bundles, drawn_step};
-use crate::generate::questions::{question, unaimed_question};
+use crate::generate::questions::{question, question_in_limits};
 use crate::generate::random::Random;
 use crate::generate::valid::{sized_bundle_with_memos, valid_bundle};
-use crate::layout::Table;
+use crate::layout::{ar, co, Table};
 use crate::program::LONGEST_INPUT;
-use crate::question::Leg;
+use crate::question::{Leg, Question, LARGEST_PLAIN_FARE, LEG_SLOTS, MOST_PERSONS};
 
 const QUESTIONS_PER_BUNDLE: u64 = 6;
 const STEPS_PER_BOOK: u64 = 8;
@@ -191,16 +191,16 @@ fn known_or_drawn_number(random: &mut Random, book: &[u32]) -> (u64, u64) {
 /// Arguments at the limits of their ranges and of their types.
 fn limits(bench: &mut Bench, random: &mut Random) -> io::Result<()> {
     let book = words_of_book(&sound_book(random)).expect("a sound book fits its words");
-    let bundle = assemble(&[Draft::plain(Table::Co)]);
+    let bundle = costliest_offer();
     let lent = Lent::of(&bundle, &book);
-    let mut asked = unaimed_question(random);
-    (asked.offer, asked.day) = (42, 20240615);
+    let mut asked = question_in_limits(random, &bundle);
     for leg in &mut asked.legs {
         *leg = Leg {
             railway: random.between_with_ends(1, 9999),
             fare: random.between_with_ends(0, 999_999),
         };
     }
+    bench.ask(&Call::fare(&most_asked()), &lent)?;
     for till in TILLS {
         let sequence = random.pick(&SEQUENCES);
         bench.ask(&Call::sale(till, sequence, &asked), &lent)?;
@@ -221,6 +221,33 @@ fn limits(bench: &mut Bench, random: &mut Random) -> io::Result<()> {
         bench.ask(&Call::balance(railway), &lent)?;
     }
     Ok(())
+}
+
+/// Both records round up by as much as there is.
+fn costliest_offer() -> Vec<u8> {
+    let conditions = Draft::plain(Table::Co).with(co::ADDITIONAL_DISCOUNTS, "Y");
+    assemble(&[
+        conditions.with(co::ROUNDING, "+").with(co::FACTOR, "998"),
+        Draft::plain(Table::Re),
+        Draft::plain(Table::Ar)
+            .with(ar::ROUNDING, "+")
+            .with(ar::FACTOR, "997"),
+    ])
+}
+
+fn most_asked() -> Question {
+    let leg = Leg {
+        railway: 1185,
+        fare: LARGEST_PLAIN_FARE,
+    };
+    Question {
+        offer: 42,
+        day: 20240615,
+        persons: MOST_PERSONS,
+        card: 7,
+        leg_count: LEG_SLOTS as u64,
+        legs: [leg; LEG_SLOTS],
+    }
 }
 
 /// Lengths that look right once cut to 32 bits.

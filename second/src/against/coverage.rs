@@ -25,8 +25,11 @@ const TILL: &str = "till";
 const SEQUENCE: &str = "sequence";
 const LEG_COUNT: &str = "leg count";
 const RAILWAY: &str = "railway asked";
+const GREATEST_FARE: &str = "greatest fare";
 const UNUSED_LEGS: &str = "unused legs";
 const MALFORMED: &str = "malformed book";
+/// Eight legs and 99 persons at 999,999, rounded up by 998 and then by 997.
+const GREATEST_PRICED: u64 = 8 * 99 * 1_001_985;
 const WIDEST_LINE: usize = 110;
 
 type Point = (String, String);
@@ -55,6 +58,9 @@ impl Coverage {
         self.meet(call.name.word(), ANSWERED);
         self.note_outcome(answer);
         let is_priced = call.name == Name::Fare || answer.outcome == outcome::BOOKED;
+        if call.name == Name::Fare && answer.value == GREATEST_PRICED {
+            self.meet(GREATEST_FARE, answer.value);
+        }
         if is_priced {
             self.note_pricing(call, lent);
         }
@@ -224,6 +230,7 @@ fn every_point() -> Vec<Point> {
         &texts(&[0, LEG_SLOTS, LEG_SLOTS + 1, u32::MAX as usize]),
     );
     add(RAILWAY, &texts(&[0, 9999, 10_000, u32::MAX]));
+    add(GREATEST_FARE, &texts(&[GREATEST_PRICED]));
     add(UNUSED_LEGS, &texts(&["filled, and priced"]));
     add(MALFORMED, &kinds_of_malformed_books());
     points
@@ -231,4 +238,30 @@ fn every_point() -> Vec<Point> {
 
 fn texts(items: &[impl ToString]) -> Vec<String> {
     items.iter().map(ToString::to_string).collect()
+}
+
+#[cfg(test)]
+mod tests {
+    use super::*;
+    use std::collections::BTreeSet;
+
+    #[test]
+    fn an_empty_coverage_is_all_gaps() {
+        let points: BTreeSet<Point> = every_point().into_iter().collect();
+        assert_eq!(points.len(), every_point().len());
+        assert_eq!(Coverage::default().gaps().len(), points.len());
+    }
+
+    #[test]
+    fn what_is_met_is_no_gap() {
+        let mut coverage = Coverage::default();
+        let refused = Answer {
+            number: 21,
+            ..Answer::default()
+        };
+        coverage.note(&Call::of(Name::Total), &Lent::of(&[], &[]), &refused);
+        assert!(!coverage.gaps().contains(&"total: 21".to_string()));
+        assert!(coverage.gaps().contains(&"cancel: 21".to_string()));
+        assert!(coverage.table().contains("21 x1"));
+    }
 }

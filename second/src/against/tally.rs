@@ -61,3 +61,31 @@ impl Tally {
             .sum()
     }
 }
+
+#[cfg(test)]
+mod tests {
+    use super::*;
+    use crate::question::asked;
+
+    fn answer(outcome: u32) -> Answer {
+        Answer {
+            outcome,
+            parts: [2274, 1500, 0, 0, 0, 0, 0, 0],
+            ..Answer::default()
+        }
+    }
+
+    #[test]
+    fn the_history_of_the_document() {
+        let sale = Call::sale(1, 1, &asked(3, 0, &[(1185, 1010), (1181, 500)]));
+        let mut tally = Tally::default();
+        for outcome in [outcome::BOOKED, outcome::ALREADY_BOOKED] {
+            tally.note(&sale, &answer(outcome));
+            assert_eq!((tally.balance(1185), tally.total()), (2274, 3774));
+        }
+        tally.note(&Call::cancel(1, 1), &answer(outcome::CANCELLED));
+        tally.note(&sale, &answer(outcome::ALREADY_BOOKED));
+        assert_eq!((tally.balance(1185), tally.total()), (0, 0));
+        assert_eq!(tally.railways().len(), 2);
+    }
+}

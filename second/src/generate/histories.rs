@@ -2,6 +2,7 @@
 
 use super::books::{malformed_book, sale_number, sound_book, sound_book_of};
 use super::corpus::Corpus;
+use super::damage::{with_relation_fault, RelationFault};
 use super::questions::{break_a_limit, question};
 use super::random::Random;
 use super::valid::valid_bundle;
@@ -86,6 +87,10 @@ pub fn drawn_bundles(random: &mut Random) -> Vec<Vec<u8>> {
 pub fn any_bundle(random: &mut Random) -> Vec<u8> {
     if random.one_in(30) {
         return vec![b'X'; LONGEST_BUNDLE + 1];
+    }
+    if random.one_in(4) {
+        let fault = random.pick(&RelationFault::ALL);
+        return with_relation_fault(random, fault);
     }
     let seed = random.draw();
     Corpus::of_seed(seed).bundle(random.below(499))
