@@ -19,7 +19,7 @@ use driver::{apply, Driver};
 use wire::{Answer, Call, Lent, Reply};
 
 /// From this many cases on, a run must reach everything.
-pub const FULL_RUN: u64 = 1500;
+pub const FULL_RUN: u64 = 3000;
 const MOST_SAVED: u64 = 100;
 
 /// What a run comes to.

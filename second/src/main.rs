@@ -68,10 +68,15 @@ fn against(seed: u64, count: u64, folder: &Path, driver: &[String]) -> ExitCode 
 }
 
 fn replay(file: &Path, driver: &[String]) -> ExitCode {
-    match against::replay(file, driver) {
-        Ok((text, true)) => say(text.trim_end()),
-        Ok((text, false)) => fail(text.trim_end()),
-        Err(error) => fail(&format!("{}: {error}", file.display())),
+    let (text, agree) = match against::replay(file, driver) {
+        Ok(told) => told,
+        Err(error) => return fail(&format!("{}: {error}", file.display())),
+    };
+    let said = say(text.trim_end());
+    if agree {
+        said
+    } else {
+        ExitCode::FAILURE
     }
 }
 

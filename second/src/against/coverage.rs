@@ -9,7 +9,6 @@ use crate::bundle::{readable_records, LONGEST_BUNDLE};
 use crate::fare::{priced_legs, CardUse, PricedLeg, Source};
 use crate::generate::corpus::every_row;
 use crate::layout::{co, Table};
-use crate::question::LEG_SLOTS;
 use crate::rounding::{Reduction, Rounding};
 
 const ANSWERED: &str = "answered";
@@ -194,50 +193,68 @@ fn numbers_of(name: Name) -> &'static [u64] {
 
 /// All that a full run must meet, in the order of the table.
 fn every_point() -> Vec<Point> {
-    let mut points = Vec::new();
-    let mut add = |group: &str, items: &[String]| {
-        points.extend(items.iter().map(|item| (group.to_string(), item.clone())));
+    let mut groups = groups_of_numbers();
+    groups.extend(groups_of_pricing());
+    groups.extend(groups_of_arguments());
+    let points_of = |(group, items): (String, Vec<String>)| {
+        let point = move |item| (group.clone(), item);
+        items.into_iter().map(point).collect::<Vec<Point>>()
     };
-    for name in Name::ALL {
-        add(name.word(), &[ANSWERED.to_string()]);
-        add(name.word(), &texts(numbers_of(name)));
-    }
-    for (table, field) in every_row() {
-        add(&field_group(table), &[field.to_string()]);
-    }
-    add(LINK, &texts(&[1, 2, 3, 4]));
-    add(UNREAD, &texts(&co::UNREAD_CONDITIONS));
-    let outcomes = [
-        "booked",
-        "already booked, live",
-        "already booked, cancelled",
-        "cancelled",
-        "already cancelled",
-    ];
-    add(OUTCOME, &texts(&outcomes));
-    add(CO_ROUNDING, &texts(&["+", "-", "0", "N"]));
-    add(AR_ROUNDING, &texts(&["+", "-", "0", "N"]));
-    add(CO_SOURCE, &texts(&["own", "0000"]));
-    add(AR_SOURCE, &texts(&["own", "0000", "outside its days"]));
-    add(
-        BUNDLE_BYTES,
-        &texts(&[0, LONGEST_BUNDLE, LONGEST_BUNDLE + 1]),
-    );
-    add(TILL, &texts(&[0, 65_535, 65_536, u32::MAX]));
-    add(SEQUENCE, &texts(&[0, (1 << 32) - 1, 1 << 32, u64::MAX]));
-    add(
-        LEG_COUNT,
-        &texts(&[0, LEG_SLOTS, LEG_SLOTS + 1, u32::MAX as usize]),
-    );
-    add(RAILWAY, &texts(&[0, 9999, 10_000, u32::MAX]));
-    add(GREATEST_FARE, &texts(&[GREATEST_PRICED]));
-    add(UNUSED_LEGS, &texts(&["filled, and priced"]));
-    add(MALFORMED, &kinds_of_malformed_books());
-    points
+    groups.into_iter().flat_map(points_of).collect()
 }
 
-fn texts(items: &[impl ToString]) -> Vec<String> {
-    items.iter().map(ToString::to_string).collect()
+type Group = (String, Vec<String>);
+
+fn group(name: &str, items: &[impl ToString]) -> Group {
+    let items = items.iter().map(ToString::to_string).collect();
+    (name.to_string(), items)
+}
+
+fn groups_of_numbers() -> Vec<Group> {
+    let mut groups = Vec::new();
+    for name in Name::ALL {
+        groups.push(group(name.word(), &[ANSWERED]));
+        groups.push(group(name.word(), numbers_of(name)));
+    }
+    for (table, field) in every_row() {
+        groups.push(group(&field_group(table), &[field]));
+    }
+    groups.push(group(LINK, &[1, 2, 3, 4]));
+    groups.push(group(UNREAD, &co::UNREAD_CONDITIONS));
+    groups.push(group(
+        OUTCOME,
+        &[
+            "booked",
+            "already booked, live",
+            "already booked, cancelled",
+            "cancelled",
+            "already cancelled",
+        ],
+    ));
+    groups
+}
+
+fn groups_of_pricing() -> Vec<Group> {
+    vec![
+        group(CO_ROUNDING, &["+", "-", "0", "N"]),
+        group(AR_ROUNDING, &["+", "-", "0", "N"]),
+        group(CO_SOURCE, &["own", "0000"]),
+        group(AR_SOURCE, &["own", "0000", "outside its days"]),
+        group(GREATEST_FARE, &[GREATEST_PRICED]),
+        group(UNUSED_LEGS, &["filled, and priced"]),
+    ]
+}
+
+fn groups_of_arguments() -> Vec<Group> {
+    let greatest = u64::from(u32::MAX);
+    vec![
+        group(BUNDLE_BYTES, &[0, LONGEST_BUNDLE, LONGEST_BUNDLE + 1]),
+        group(TILL, &[0, 65_535, 65_536, greatest]),
+        group(SEQUENCE, &[0, greatest, greatest + 1, u64::MAX]),
+        group(LEG_COUNT, &[0, 8, 9, greatest]),
+        group(RAILWAY, &[0, 9999, 10_000, greatest]),
+        group(MALFORMED, &kinds_of_malformed_books()),
+    ]
 }
 
 #[cfg(test)]

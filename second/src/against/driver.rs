@@ -86,11 +86,8 @@ impl Driver {
     }
 }
 
-/// A place outside the book is left out here and found when books are compared.
 pub fn apply(book: &mut [u32], changes: &[(u32, u32)]) {
     for &(place, word) in changes {
-        if let Some(slot) = book.get_mut(place as usize) {
-            *slot = word;
-        }
+        book[place as usize] = word;
     }
 }
