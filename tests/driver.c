@@ -65,14 +65,20 @@ static struct room make_room(size_t sent, size_t more) {
 
 static void clear_room(struct room *room) { munmap(room->pages - PAGE, room->size + 2 * PAGE); }
 
+static void protect(const struct room *room, int protection) {
+    if (mprotect(room->pages, room->size, protection) == 0) return;
+    perror("driver: no protection");
+    exit(2);
+}
+
 static uint8_t *slack(const struct room *room, enum end end) { return end == BEHIND ? room->pages : room->pages + room->length; }
 
 static void place(struct room *room, enum end end, const void *bytes, int protection) {
-    mprotect(room->pages, room->size, PROT_READ | PROT_WRITE);
+    protect(room, PROT_READ | PROT_WRITE);
     memset(slack(room, end), CANARY, room->size - room->length);
     room->buffer = end == BEHIND ? room->pages + room->size - room->length : room->pages;
     if (room->sent > 0) memcpy(room->buffer, bytes, room->sent);
-    mprotect(room->pages, room->size, protection);
+    protect(room, protection);
     if (room->length == 0 && end == BEFORE) room->buffer = NULL;
 }
 

@@ -58,11 +58,8 @@ fn asked(call: &Call, lent: &Lent) -> String {
         let _ = writeln!(text, "bundle of {bytes} bytes and {more} zeros");
     }
     if call.name.reads_book() {
-        let (words, more, count) = (lent.book.len(), lent.book_more, lent.book.first());
-        let _ = writeln!(
-            text,
-            "book of {words} words and {more} zeros, count {count:?}"
-        );
+        let (words, more) = (lent.book.len(), lent.book_more);
+        let _ = writeln!(text, "book of {words} words and {more} zeros");
     }
     text
 }
