@@ -22,6 +22,7 @@ use crate::question::{Leg, Question, LARGEST_PLAIN_FARE, LEG_SLOTS, MOST_PERSONS
 
 const QUESTIONS_PER_BUNDLE: u64 = 6;
 const STEPS_PER_BOOK: u64 = 8;
+const BOOKS_PER_DEFECT: u64 = 4;
 const TILLS: [u64; 5] = [0, 1, 65_535, 65_536, u32::MAX as u64];
 const SEQUENCES: [u64; 5] = [0, 1, (1 << 32) - 1, 1 << 32, u64::MAX];
 const COUNTS: [u64; 4] = [0, 8, 9, u32::MAX as u64];
@@ -146,16 +147,22 @@ fn sound(bench: &mut Bench, random: &mut Random) -> io::Result<()> {
 
 fn malformed(bench: &mut Bench, random: &mut Random, turn: u64) -> io::Result<()> {
     let turn = turn as usize % (BookDefect::ALL.len() + WRONG_LENGTHS.len());
-    let (kind, book) = match BookDefect::ALL.get(turn) {
-        Some(defect) => (format!("{defect:?}"), defect.example(random)),
-        None => {
-            let length = WRONG_LENGTHS[turn - BookDefect::ALL.len()];
-            (format!("{length} words"), book_of_length(random, length))
-        }
-    };
-    bench.coverage.note_malformed(&kind);
+    for _ in 0..BOOKS_PER_DEFECT {
+        let book = match BookDefect::ALL.get(turn) {
+            Some(defect) => defect.example(random),
+            None => book_of_length(random, WRONG_LENGTHS[turn - BookDefect::ALL.len()]),
+        };
+        bench
+            .coverage
+            .note_malformed(&kinds_of_malformed_books()[turn]);
+        each_call_on(bench, random, &book)?;
+    }
+    Ok(())
+}
+
+fn each_call_on(bench: &mut Bench, random: &mut Random, book: &[u32]) -> io::Result<()> {
     let bundle = valid_bundle(random);
-    let (till, sequence) = known_or_drawn_number(random, &book);
+    let (till, sequence) = known_or_drawn_number(random, book);
     let asked = question(random, &bundle);
     for call in [
         Call::sale(till, sequence, &asked),
@@ -164,7 +171,7 @@ fn malformed(bench: &mut Bench, random: &mut Random, turn: u64) -> io::Result<()
         Call::balance(random.between(1, 9999)),
         Call::of(Name::Total),
     ] {
-        bench.ask(&call, &Lent::of(&bundle, &book))?;
+        bench.ask(&call, &Lent::of(&bundle, book))?;
     }
     Ok(())
 }
