@@ -167,18 +167,17 @@ case("order-link-to-other-transferor", ar() + co() + re({1: "1181"}), "NO 5 2 0"
 
 # The bundle of examples/: two types of discount, one offer for all railways and for two of its own, another for one railway and for
 # groups of two to five.
-SAMPLE = b"".join(
-    [
-        re({3: "Annual card", 4: "Half of the fare"}),
-        re({2: "012", 3: "Staff card", 4: "Free travel"}),
-        co({33: "Y", 37: "Y"}),
-        co({3: "1185", 33: "Y", 39: "030000", 40: "+", 41: "050"}),
-        co({3: "1181", 39: " " * 6, 40: "0", 41: "010"}),
-        ar(),
-        ar({3: "1185", 5: "050000", 9: "N", 10: "000"}),
-        ar({3: "1185", 4: "012", 5: "100000", 9: "-", 10: "001"}),
-        me({4: "Not valid in night trains. G\xfcltig f\xfcr Hin- und R\xfcckfahrt."}),
-        co({2: "00043", 3: "1185", 28: "02", 29: "05", 39: "060000"}),
-    ]
-)
+SAMPLE_RECORDS = [
+    re({3: "Annual card", 4: "Half of the fare"}),
+    re({2: "012", 3: "Staff card", 4: "Free travel"}),
+    co({33: "Y", 37: "Y"}),
+    co({3: "1185", 33: "Y", 39: "030000", 40: "+", 41: "050"}),
+    co({3: "1181", 39: " " * 6, 40: "0", 41: "010"}),
+    ar(),
+    ar({3: "1185", 5: "050000", 9: "N", 10: "000"}),
+    ar({3: "1185", 4: "012", 5: "100000", 9: "-", 10: "001"}),
+    me({4: "Not valid in night trains. G\xfcltig f\xfcr Hin- und R\xfcckfahrt."}),
+    co({2: "00043", 3: "1185", 28: "02", 29: "05", 39: "060000"}),
+]
+SAMPLE = b"".join(SAMPLE_RECORDS)
 SAMPLE_LINE = "OK 10"

@@ -30,7 +30,7 @@ fn two(low: u8, high: u8) -> u32
 }
 
 // The table that the mark at the start names, TABLES where it names none.
-fn table_of(s: &[u8]) -> u8
+pub fn table_of(s: &[u8]) -> u8
     ensures { λ r. ⌜ r ≡ tableOf (now (s .entry)) ⌝ }
 {
     if is_mark(s, b"CO") {

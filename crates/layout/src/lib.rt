@@ -13,7 +13,7 @@ ghost use Rattle.layout.specs.Rules.{fieldAt, obeysRow, brokenRow};
 pub mod company;
 pub mod dates;
 mod rows;
-mod rules;
+pub mod rules;
 
 pub const CO: u8 = 0;
 

@@ -1,0 +1,105 @@
+// What a field must be, in one sentence, with the figures of its row and of the fields that its rule looks back to.
+use super::words::say;
+use super::words::say_digits;
+use super::words::say_number;
+use super::words::say_quoted;
+use layout::Row;
+use layout::rules;
+
+pub fn say_rule(row: Row, body: &[u8]) {
+    let start = row.start;
+    let field = row.field as usize;
+    let kind = row.kind;
+    say(b"It must be ");
+    match kind {
+        rules::TEXT => say_text_rule(body, start, row.length),
+        rules::TRANSFEROR => say(b"four digits, 0001 to 9999"),
+        rules::RAILWAY => say(b"four digits, 0000 to 9999, where 0000 stands for all railways"),
+        rules::NUMBER => say_limits(row.least, row.most, row.length),
+        rules::NUMBER_OR_BLANK => say_limits_or_blank(row.least, row.most, row.length),
+        rules::FLAG => say(b"Y or N, in capitals"),
+        rules::FLAG_OR_BLANK => say(b"Y or N, in capitals, or blank"),
+        rules::MOST_PERSONS => say_most_persons_rule(body, start, field),
+        rules::ROUNDING => say(b"one of + - 0 N"),
+        rules::FACTOR => say_factor_rule(body, start, field),
+        rules::FIRST_DAY => say_day_rule(),
+        rules::LAST_DAY => say_last_day_rule(body, start, field),
+        _ => say(b"as the layout says"),
+    }
+    say(b".\n");
+}
+
+fn say_limits(least: u32, most: u32, width: usize) {
+    say(b"digits only, ");
+    say_digits(least, width);
+    say(b" to ");
+    say_digits(most, width);
+}
+
+fn say_limits_or_blank(least: u32, most: u32, width: usize) {
+    say_limits(least, most, width);
+    say(b", or all blank");
+}
+
+fn say_text_rule(body: &[u8], start: usize, length: usize) {
+    let text = layout::field(body, start, length);
+    let bad = first_bad(text);
+    say(b"text, of bytes 32 to 126 and 160 to 255 only; the first other byte is ");
+    say_number(common::byte_at(text, super::places::sum(bad, 1)) as usize);
+    say(b", at position ");
+    say_number(super::places::sum(start, bad));
+}
+
+// The first byte of a text, from 0, that no text may have.
+fn first_bad(text: &[u8]) -> usize {
+    let mut i = 0;
+    while i < text.len() {
+        if !rules::text(common::part(text, i, 1)) {
+            return i;
+        }
+        i += 1;
+    }
+    i
+}
+
+// The field that a rule looks back to: its number, and its bytes.
+fn say_back(back: usize, bytes: &[u8]) {
+    say(b" in field ");
+    say_number(back);
+    say(b", which is ");
+    say_quoted(bytes);
+}
+
+fn say_most_persons_rule(body: &[u8], start: usize, field: usize) {
+    say_limits_or_blank(1, 99, 2);
+    say(b", and if it is 01 to 98, not below the minimum");
+    say_back(
+        common::less(field, 1),
+        layout::field(body, common::less(start, 2), 2),
+    );
+}
+
+fn say_factor_rule(body: &[u8], start: usize, field: usize) {
+    let rounding = layout::field(body, common::less(start, 1), 1);
+    if common::byte_at(rounding, 1) == b'N' {
+        say_limits(0, 999, 3);
+    } else {
+        say_limits(1, 999, 3);
+    }
+    say(b", under the rounding");
+    say_back(common::less(field, 1), rounding);
+    say(b"; 000 is for rounding N only");
+}
+
+fn say_day_rule() {
+    say(b"a real day, written YYYYMMDD, of the years 1583 to 9999");
+}
+
+fn say_last_day_rule(body: &[u8], start: usize, field: usize) {
+    say_day_rule();
+    say(b", and not before the first day");
+    say_back(
+        common::less(field, 2),
+        layout::field(body, common::less(start, 10), 8),
+    );
+}

@@ -1,0 +1,57 @@
+// Reads a bundle from standard input and tells the verdict on it in words, for the railway that delivered it.
+use offers::Judgement;
+
+mod field_names;
+mod field_rules;
+mod places;
+mod refusals;
+mod words;
+
+fn write_line(verdict: Judgement) {
+    match verdict {
+        Judgement::Accepted(records) => {
+            words::say(b"OK ");
+            words::say_number(records);
+        }
+        Judgement::Refused(number, place, detail) => {
+            words::say(b"NO ");
+            words::say_number(number as usize);
+            words::say(b" ");
+            words::say_number(place);
+            words::say(b" ");
+            words::say_number(detail);
+        }
+    }
+    words::say(b"\n");
+}
+
+fn tell_count(bundle: &[u8], records: usize, table: u8) {
+    field_names::say_table(table);
+    words::say(b": ");
+    words::say_number(places::count_of(bundle, records, table));
+    words::say(b"\n");
+}
+
+fn tell_accepted(bundle: &[u8], records: usize) {
+    words::say(b"The bundle is accepted: every record keeps the rules. Its records by table:\n");
+    tell_count(bundle, records, layout::CO);
+    tell_count(bundle, records, layout::RE);
+    tell_count(bundle, records, layout::AR);
+    tell_count(bundle, records, layout::ME);
+}
+
+fn explain(bundle: &[u8]) {
+    let verdict = offers::verdict(bundle);
+    write_line(verdict);
+    match verdict {
+        Judgement::Accepted(records) => tell_accepted(bundle, records),
+        Judgement::Refused(number, place, detail) => refusals::tell(bundle, number, place, detail),
+    }
+}
+
+// The buffer has room for a byte more than a bundle may have, so that a longer one shows. A read that fails ends the input.
+fn main() {
+    let mut buffer = [0u8; 1048577];
+    let n = io::read_full(0, &mut buffer);
+    explain(&buffer[..n]);
+}

@@ -1,0 +1,231 @@
+// Each refusal of a bundle in words: what is wrong, with which record, and what would be right.
+use super::field_names::say_field;
+use super::field_names::say_mark;
+use super::field_names::say_table;
+use super::places::body_at;
+use super::places::place_of;
+use super::places::sum;
+use super::places::table_at;
+use super::words::say;
+use super::words::say_bytes;
+use super::words::say_number;
+use super::words::say_quoted;
+use layout::Row;
+
+pub fn tell(bundle: &[u8], number: u8, record: usize, detail: usize) {
+    match number {
+        1 => tell_too_long(),
+        2 => tell_no_mark(bundle, record),
+        3 => tell_cut_short(bundle, record),
+        4 => tell_broken_field(bundle, record),
+        5 => tell_other_transferor(bundle, record),
+        6 => tell_repeated_key(bundle, record, detail),
+        7 => tell_missing_link(bundle, record, detail),
+        _ => say(b"There are no words for this number here.\n"),
+    }
+    say(b"Only this first fault is told. Once it is mended there may be another.\n");
+}
+
+fn tell_too_long() {
+    say(b"The bundle is too long: it has more than 1048576 bytes. No record was looked at.\n");
+}
+
+// What names a record within its table: offer and railway, or code, or all three.
+fn say_key(table: u8, body: &[u8]) {
+    if table == layout::RE {
+        say(b"code ");
+        say_bytes(layout::field(body, 5, 3));
+        return;
+    }
+    say(b"offer ");
+    say_bytes(layout::field(body, 5, 5));
+    say(b", railway ");
+    say_bytes(layout::field(body, 10, 4));
+    if table == layout::AR {
+        say(b", code ");
+        say_bytes(layout::field(body, 14, 3));
+    }
+}
+
+// The last position of the key.
+fn key_end(table: u8) -> usize {
+    match table {
+        layout::RE => 7,
+        layout::AR => 16,
+        _ => 13,
+    }
+}
+
+fn tell_record(bundle: &[u8], record: usize, at: usize) {
+    let table = table_at(bundle, at);
+    let body = body_at(bundle, at);
+    say(b"Record ");
+    say_number(record);
+    say(b", counted from 0, is of table ");
+    say_table(table);
+    if key_end(table) <= body.len() {
+        say(b": ");
+        say_key(table, body);
+    }
+    say(b".\nIt starts with its mark at byte ");
+    say_number(at);
+    say(b" of the bundle, counted from 0.\n");
+}
+
+fn tell_no_mark(bundle: &[u8], record: usize) {
+    let at = place_of(bundle, record);
+    let found = common::part(bundle, at, 2);
+    say(b"No record starts where one should.\nRecord ");
+    say_number(record);
+    say(b", counted from 0, should start at byte ");
+    say_number(at);
+    say(b" of the bundle, counted from 0.\nA record starts with its mark, CO, RE, AR or ME. ");
+    if found.len() < 2 {
+        say(b"Here a single byte is left: ");
+    } else {
+        say(b"Here stand the bytes ");
+    }
+    say_quoted(found);
+    say(b".\n");
+    tell_record_before(bundle, record);
+}
+
+fn tell_record_before(bundle: &[u8], record: usize) {
+    if record == 0 {
+        return;
+    }
+    say(
+        b"Look for a line end or another byte behind the record before it, or whether that has the wrong length.\n",
+    );
+    let before = record - 1;
+    tell_record(bundle, before, place_of(bundle, before));
+}
+
+fn tell_cut_short(bundle: &[u8], record: usize) {
+    let at = place_of(bundle, record);
+    let body = body_at(bundle, at);
+    say(b"The bundle ends inside a record.\n");
+    tell_record(bundle, record, at);
+    say(b"Behind the mark it needs ");
+    say_number(layout::length_of(table_at(bundle, at)));
+    say(b" bytes; the bundle has ");
+    say_number(body.len());
+    say(b" left.\n");
+}
+
+fn tell_broken_field(bundle: &[u8], record: usize) {
+    let at = place_of(bundle, record);
+    let table = table_at(bundle, at);
+    let body = body_at(bundle, at);
+    let row = layout::row_at(layout::broken_row(table, body));
+    say(b"A field breaks its rule.\n");
+    tell_record(bundle, record, at);
+    tell_field(row, at);
+    say(b"Delivered: ");
+    say_quoted(layout::field(body, row.start, row.length));
+    say(b".\n");
+    super::field_rules::say_rule(row, body);
+}
+
+// A field's number and name, and where it stands in the record and in the bundle.
+fn tell_field(row: Row, at: usize) {
+    let start = row.start;
+    let length = row.length;
+    say(b"Field ");
+    say_number(row.field as usize);
+    say(b", ");
+    say_field(row.table, row.field);
+    say(b": ");
+    say_span(b"position", start, length);
+    say(b" of the record, counted from 1 behind the mark; ");
+    say_span(b"byte", sum(at, sum(start, 1)), length);
+    say(b" of the bundle.\n");
+}
+
+// One place, or the first and the last of several.
+fn say_span(name: &[u8], first: usize, length: usize) {
+    say(name);
+    if length <= 1 {
+        say(b" ");
+        say_number(first);
+        return;
+    }
+    say(b"s ");
+    say_number(first);
+    say(b" to ");
+    say_number(common::less(sum(first, length), 1));
+}
+
+fn tell_other_transferor(bundle: &[u8], record: usize) {
+    let at = place_of(bundle, record);
+    say(b"The record has another transferor than record 0.\n");
+    tell_record(bundle, record, at);
+    say(b"Its field 1, transferor, is ");
+    say_quoted(layout::field(body_at(bundle, at), 1, 4));
+    say(b"; that of record 0 is ");
+    say_quoted(layout::field(body_at(bundle, 0), 1, 4));
+    say(b". All records of a bundle have the same transferor.\n");
+}
+
+fn tell_repeated_key(bundle: &[u8], record: usize, earlier: usize) {
+    let at = place_of(bundle, record);
+    let before = place_of(bundle, earlier);
+    say(b"The record repeats the key of an earlier record.\n");
+    tell_record(bundle, record, at);
+    say(b"Record ");
+    say_number(earlier);
+    say(b", at byte ");
+    say_number(before);
+    say(b" of the bundle, has the same key: ");
+    say_key(table_at(bundle, before), body_at(bundle, before));
+    say(b".\nA key may stand only once in its table; the days are no part of it.\n");
+}
+
+fn tell_missing_link(bundle: &[u8], record: usize, detail: usize) {
+    let at = place_of(bundle, record);
+    let table = table_at(bundle, at);
+    let body = body_at(bundle, at);
+    say(b"The record needs another record that is not in the bundle.\n");
+    tell_record(bundle, record, at);
+    match detail {
+        1 => tell_code_wanted(body),
+        2 => tell_conditions_wanted(table, body),
+        3 => tell_flag_wants(33, layout::AR, body),
+        4 => tell_flag_wants(37, layout::ME, body),
+        _ => say(b"Another record"),
+    }
+    say(b" is needed; there is none.\n");
+}
+
+fn tell_code_wanted(body: &[u8]) {
+    say(b"An AR record needs the RE record of its code, so an RE record of code ");
+    say_bytes(layout::field(body, 14, 3));
+}
+
+fn tell_conditions_wanted(table: u8, body: &[u8]) {
+    say(b"An ");
+    say_mark(table);
+    say(b" record needs a CO record of its offer, so a CO record of offer ");
+    say_bytes(layout::field(body, 5, 5));
+    say(b" for any railway");
+}
+
+// A CO record's flag that is Y wants a record of its offer, for its railway or for all of them.
+fn tell_flag_wants(flag: u8, wants: u8, body: &[u8]) {
+    let railway = layout::field(body, 10, 4);
+    say(b"Flag ");
+    say_number(flag as usize);
+    say(b", ");
+    say_field(layout::CO, flag);
+    say(b", is Y, so an ");
+    say_mark(wants);
+    say(b" record of offer ");
+    say_bytes(layout::field(body, 5, 5));
+    if layout::company::is_all_railways(railway) {
+        say(b" for any railway");
+    } else {
+        say(b" for railway ");
+        say_bytes(railway);
+        say(b" or 0000");
+    }
+}

@@ -1,0 +1,222 @@
+"""What the program explain owes to a bundle: the names and rules of fields, and the words for the samples of examples/.
+
+The names are short forms of those in source document 001, Appendices C, H, I and O; the rules are the scope document's. Both are
+written by hand and share nothing with crates/. Positions are counted from the lengths in records.py.
+"""
+from cases import SAMPLE, SAMPLE_RECORDS
+from records import GOOD, ar, co
+
+END = "Only this first fault is told. Once it is mended there may be another."
+
+TABLES = {"CO": "conditions", "RE": "types of discount", "AR": "additional discounts", "ME": "memo"}
+
+FLAG = "Y or N, in capitals"
+TEXT = "text, of bytes 32 to 126 and 160 to 255 only; the first other byte is {byte}, at position {at}"
+DAY = "a real day, written YYYYMMDD, of the years 1583 to 9999"
+LAST_DAY = DAY + ', and not before the first day in field {before}, which is "{earlier}"'
+FACTOR = 'digits only, {least} to 999, under the rounding in field {before}, which is "{earlier}"; 000 is for rounding N only'
+VERSION = "digits only, 01 to 99"
+OFFER = "digits only, 00001 to 99999"
+RAILWAY = "four digits, 0000 to 9999, where 0000 stands for all railways"
+TRANSFEROR = "four digits, 0001 to 9999"
+
+# Of each field its name, its rule and the field that the rule looks back to.
+FIELDS = {
+    "CO": {
+        1: ("transferor", TRANSFEROR, None),
+        2: ("offer number", OFFER, None),
+        3: ("participating railway", RAILWAY, None),
+        4: ("conditions of fields 4 to 26, taken as one text", TEXT, None),
+        27: ("special conditions on the number of passengers", FLAG + ", or blank", None),
+        28: ("minimum number of passengers", "digits only, 00 to 99, or all blank", None),
+        29: (
+            "maximum number of passengers",
+            "digits only, 01 to 99, or all blank, and if it is 01 to 98, not below the minimum in field {before}, which is "
+            '"{earlier}"',
+            28,
+        ),
+        30: ("special series", "digits only, 0 to 9", None),
+        31: ("train restrictions", FLAG, None),
+        32: ("passenger category discounts", FLAG, None),
+        33: ("additional discount", FLAG, None),
+        34: ("accompanying-person discount", FLAG, None),
+        35: ("exclusion periods", FLAG, None),
+        36: ("exchange and refund", FLAG, None),
+        37: ("extra information", FLAG, None),
+        38: ("supplement required", FLAG, None),
+        39: ("discount", "digits only, 000000 to 100000, or all blank", None),
+        40: ("rounding", "one of + - 0 N", None),
+        41: ("rounding factor", FACTOR, 40),
+        42: ("first day of validity", DAY, None),
+        43: ("version number", VERSION, None),
+        44: ("last day of validity", LAST_DAY, 42),
+    },
+    "RE": {
+        1: ("transferor", TRANSFEROR, None),
+        2: ("discount code", "digits only, 001 to 999", None),
+        3: ("type of discount in the country's language", TEXT, None),
+        4: ("type of discount in French", TEXT, None),
+        5: ("type of discount in German", TEXT, None),
+        6: ("type of discount in English", TEXT, None),
+        7: ("reserved", TEXT, None),
+        8: ("link", TEXT, None),
+        9: ("first day of validity", DAY, None),
+        10: ("version number", VERSION, None),
+        11: ("last day of validity", LAST_DAY, 9),
+    },
+    "AR": {
+        1: ("transferor", TRANSFEROR, None),
+        2: ("offer number", OFFER, None),
+        3: ("participating railway", RAILWAY, None),
+        4: ("discount code", "digits only, 001 to 999", None),
+        5: ("discount", "digits only, 000000 to 100000", None),
+        6: ("cumulative discounts", FLAG, None),
+        7: ("rating", "digits only, 001 to 999", None),
+        8: ("accompanying-person discount permitted", FLAG, None),
+        9: ("rounding", "one of + - 0 N", None),
+        10: ("rounding factor", FACTOR, 9),
+        11: ("first day of validity", DAY, None),
+        12: ("version number", VERSION, None),
+        13: ("last day of validity", LAST_DAY, 11),
+    },
+    "ME": {
+        1: ("transferor", TRANSFEROR, None),
+        2: ("offer number", OFFER, None),
+        3: ("participating railway", RAILWAY, None),
+        4: ("extra information in the country's language", TEXT, None),
+        5: ("extra information in French", TEXT, None),
+        6: ("extra information in German", TEXT, None),
+        7: ("extra information in English", TEXT, None),
+        8: ("reserved", TEXT, None),
+        9: ("first day of validity", DAY, None),
+        10: ("version number", VERSION, None),
+        11: ("last day of validity", LAST_DAY, 9),
+    },
+}
+
+
+def shown(data):
+    """Bytes as explain shows them."""
+    return "".join(chr(byte) if 32 <= byte <= 126 and byte not in b'"\\' else f"\\x{byte:02X}" for byte in data)
+
+
+def parts_of(table, record):
+    """Each field of a record by its number: its first position and its bytes."""
+    parts = {}
+    start = 1
+    for field, good in GOOD[table]:
+        parts[field] = (start, record[start + 1 : start + 1 + len(good)])
+        start += len(good)
+    return parts
+
+
+def key(table, record):
+    parts = {field: shown(data) for field, (_, data) in parts_of(table, record).items()}
+    if table == "RE":
+        return f"code {parts[2]}"
+    return f"offer {parts[2]}, railway {parts[3]}" + (f", code {parts[4]}" if table == "AR" else "")
+
+
+def place_lines(number, at, table, named):
+    """The lines that say which record it is; `named` is its key, or nothing where it is cut off."""
+    return [
+        f"Record {number}, counted from 0, is of table {table} ({TABLES[table]})" + (f": {named}." if named else "."),
+        f"It starts with its mark at byte {at} of the bundle, counted from 0.",
+    ]
+
+
+def span(name, first, length):
+    return f"{name}s {first} to {first + length - 1}" if length > 1 else f"{name} {first}"
+
+
+def rule_words(rule, before, table, record, start, data):
+    parts = parts_of(table, record)
+    earlier = shown(parts[before][1]) if before else ""
+    bad = next((i for i, byte in enumerate(data) if not (32 <= byte <= 126 or 160 <= byte)), 0)
+    least = "000" if earlier == "N" else "001"
+    return rule.format(byte=data[bad], at=start + bad, before=before, earlier=earlier, least=least)
+
+
+def field_lines(number, at, table, record, field):
+    """All lines due where a field of a record is broken that stands at a byte of the bundle."""
+    name, rule, before = FIELDS[table][field]
+    start, data = parts_of(table, record)[field]
+    return (
+        [f"NO 4 {number} {field}", "A field breaks its rule."]
+        + place_lines(number, at, table, key(table, record))
+        + [
+            f"Field {field}, {name}: {span('position', start, len(data))} of the record, counted from 1 behind the mark; "
+            f"{span('byte', at + 1 + start, len(data))} of the bundle.",
+            f'Delivered: "{shown(data)}".',
+            f"It must be {rule_words(rule, before, table, record, start, data)}.",
+            END,
+        ]
+    )
+
+
+def changed(place, record):
+    """The sample's records with one of them changed."""
+    return SAMPLE_RECORDS[:place] + [record] + SAMPLE_RECORDS[place + 1 :]
+
+
+# The bundles of examples/, each with its lines. All but the first are the sample with a change that the last lines tell.
+SAMPLES = {
+    "sample": (
+        SAMPLE,
+        """\
+OK 10
+The bundle is accepted: every record keeps the rules. Its records by table:
+CO (conditions): 4
+RE (types of discount): 2
+AR (additional discounts): 3
+ME (memo): 1
+""",
+    ),
+    "broken-field": (
+        b"".join(changed(3, co({3: "1185", 33: "Y", 39: "030000", 40: "+", 41: "000"}))),
+        """\
+NO 4 3 41
+A field breaks its rule.
+Record 3, counted from 0, is of table CO (conditions): offer 00042, railway 1185.
+It starts with its mark at byte 1041 of the bundle, counted from 0.
+Field 41, rounding factor: positions 135 to 137 of the record, counted from 1 behind the mark; bytes 1177 to 1179 of the bundle.
+Delivered: "000".
+It must be digits only, 001 to 999, under the rounding in field 40, which is "+"; 000 is for rounding N only.
+Only this first fault is told. Once it is mended there may be another.
+""",
+    ),
+    "repeated-key": (
+        b"".join(changed(7, ar({3: "1185", 4: "007", 5: "100000", 9: "-", 10: "001"}))),
+        """\
+NO 6 7 6
+The record repeats the key of an earlier record.
+Record 7, counted from 0, is of table AR (additional discounts): offer 00042, railway 1185, code 007.
+It starts with its mark at byte 1457 of the bundle, counted from 0.
+Record 6, at byte 1406 of the bundle, has the same key: offer 00042, railway 1185, code 007.
+A key may stand only once in its table; the days are no part of it.
+Only this first fault is told. Once it is mended there may be another.
+""",
+    ),
+    "missing-link": (
+        b"".join(changed(4, co({3: "1181", 33: "Y", 39: " " * 6, 40: "0", 41: "010"}))[:5] + SAMPLE_RECORDS[6:]),
+        """\
+NO 7 4 3
+The record needs another record that is not in the bundle.
+Record 4, counted from 0, is of table CO (conditions): offer 00042, railway 1181.
+It starts with its mark at byte 1198 of the bundle, counted from 0.
+Flag 33, additional discount, is Y, so an AR record of offer 00042 for railway 1181 or 0000 is needed; there is none.
+Only this first fault is told. Once it is mended there may be another.
+""",
+    ),
+    "cut-short": (
+        SAMPLE[:-20],
+        """\
+NO 3 9 0
+The bundle ends inside a record.
+Record 9, counted from 0, is of table CO (conditions): offer 00043, railway 1185.
+It starts with its mark at byte 2741 of the bundle, counted from 0.
+Behind the mark it needs 155 bytes; the bundle has 135 left.
+Only this first fault is told. Once it is mended there may be another.
+""",
+    ),
+}
