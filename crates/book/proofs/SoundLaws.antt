@@ -1,24 +1,26 @@
 -- What makes a book sound, over plain values: its entries' numbers, and a question that is sound.
 -- Assumes nothing.
 use Prim.Native.Nat.{ℕ, _+_, _-_, _≤_, _<_}
-use mathlib.Core.Path.{_≡_, refl, sym, _∙_}
-use mathlib.Core.Bool.{true, false}
-use mathlib.Core.List.{List}
+use mathlib.Core.Path.{_≡_, refl, sym, _∙_, ap}
+use mathlib.Core.Bool.{Bool, true, false, _&&_}
+use mathlib.Core.List.{List, [], _∷_}
+use native.Mathlib.Numerals.{add-one}
 use native.Mathlib.Omega.{arith}
-use lib.Dec.{ltb}
-use lib.ListN.{getD, take, drop}
-use lib.Seq.{getD-take, getD-drop, drop-drop}
-use borrow.Author.Tests.{eq-eqb, ne-eqb}
+use lib.Dec.{eqb, ltb}
+use lib.ListN.{length, getD, take, drop}
+use lib.Seq.{getD-take, getD-drop, drop-drop, take-suc}
+use borrow.Author.Tests.{eqb-true, eq-eqb, ne-eqb}
 use Rattle.common.specs.Least.{least}
-use Rattle.common.specs.Lists.{same, upTo}
+use Rattle.common.specs.Lists.{every, same, sum, upTo}
 use Rattle.common.proofs.Least.{hit, alike}
 use Rattle.common.proofs.Lists.{upto-length, upto-at}
+use Rattle.common.proofs.Sums.{sum-append}
 use Rattle.common.proofs.Parts.{part-rest}
-use Rattle.common.proofs.Tests.{both-true}
+use Rattle.common.proofs.Tests.{never, both-true}
 use Rattle.fares.specs.Question.{inLimits}
 use Rattle.fares.proofs.FareLaws.{asked}
 use Rattle.book.specs.Words.{Entry, noEntry, questionWidth, questionOf, questionWords}
-use Rattle.book.specs.Sound.{askedSound, sameNumber, repeats, numbersDiffer}
+use Rattle.book.specs.Sound.{isZero, askedSound, sameNumber, repeats, numbersDiffer}
 
 -- the leg count of a sound question
 pub few-legs : (ws : List ℕ) → askedSound ws ≡ true → questionOf ws .count ≤ 8
@@ -58,3 +60,18 @@ unused-parts w h = rw (count-word w) (go (getD w 8 0) h)
         let m : 61 - (53 + n) ≡ 8 - n = omega arith in
         let e : n + (8 - n) ≡ 8 = omega arith in
         rw (m, ← drop-drop n 53 w) (sym (rw e at (part-rest n (8 - n) (drop 53 w))))
+
+-- the sum of one word more
+pub sum-taken : (xs : List ℕ) (k : ℕ) → k < length xs → sum (take (k + 1) xs) ≡ sum (take k xs) + getD xs k 0
+unfolding sum
+sum-taken xs k l = rw (add-one, take-suc xs k 0 l) (omega (arith, sum-append (take k xs) (getD xs k 0 ∷ [])))
+
+-- the sum of some words is zero exactly if each of them is
+zero-by : (x n : ℕ) (b : Bool) → eqb x 0 ≡ b → eqb (x + n) 0 ≡ (b && eqb n 0)
+zero-by x n true e = let x0 : x ≡ 0 = eqb-true x 0 e in let z : x + n ≡ n = omega arith in ap (λ m. eqb m 0) z
+zero-by x n false e = ne-eqb (x + n) 0 (λ h. let z : x ≡ 0 = omega arith in never (eq-eqb x 0 z) e)
+
+pub zero-sum : (xs : List ℕ) → eqb (sum xs) 0 ≡ every isZero xs
+unfolding sum every
+zero-sum [] = refl
+zero-sum (x ∷ xs) = zero-by x (sum xs) (eqb x 0) refl ∙ ap (λ b. eqb x 0 && b) (zero-sum xs)

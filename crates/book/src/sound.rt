@@ -6,7 +6,7 @@ ghost use lib.ListN.{length, drop};
 ghost use Rattle.common.specs.Least.{least};
 ghost use Rattle.common.specs.Lists.{every, upTo};
 ghost use Rattle.fares.specs.Reductions.{partBound};
-ghost use Rattle.book.specs.Words.{capacity, width, questionWidth, entryOf, entryAt};
+ghost use Rattle.book.specs.Words.{capacity, bookLength, width, questionWidth, entryOf, entryAt};
 ghost use Rattle.book.specs.Sound.{isZero, numberInLimits, askedSound, entrySound, numbersDiffer, soundWords};
 use super::words::ASKED;
 use super::words::CAPACITY;
@@ -34,17 +34,18 @@ pub fn is_number(till: u32, sequence: u64) -> bool
     sequence <= 4294967295
 }
 
-pub fn all_zero(words: &[u32]) -> bool
+// Whether all words are zero: their sum is, which a processor adds up many words at a time.
+fn all_zero(words: &[u32]) -> bool
+    requires { ⌜ length (now words) ≤ bookLength ⌝ }
     ensures { λ r. ⌜ r ≡ every isZero (now (words .entry)) ⌝ }
 {
+    let mut sum: u64 = 0;
     let mut k = 0;
     while k < words.len() {
-        if words[k] != 0 {
-            return false;
-        }
+        sum += words[k] as u64;
         k += 1;
     }
-    true
+    sum == 0
 }
 
 fn all_bounded(parts: &[u32]) -> bool

@@ -1,33 +1,38 @@
--- `book::sound::all_zero` meets its contract. The loop's invariant: each word passed is zero, so that what is left decides.
+-- `book::sound::all_zero` meets its contract. The loop's invariant: the sum is that of the words passed, each of them small.
 -- Assumes nothing.
-use Prim.Native.Nat.{_≤_, _-_}
-use mathlib.Core.Path.{_≡_, refl, sym, _∙_}
+use Prim.Native.Nat.{_+_, _-_, _*_, _≤_}
+use mathlib.Core.Path.{_≡_, refl, sym, _∙_, ap}
 use native.Mathlib.Omega.{arith}
-use lib.ListN.{length, drop}
-use borrow.Author.Tests.{eq-eqb, ne-eqb}
-use Rattle.common.specs.Lists.{every}
-use Rattle.common.proofs.Lists.{every-step, every-end}
-use Rattle.book.specs.Sound.{isZero}
+use lib.Dec.{eqb}
+use lib.ListN.{length, take}
+use lib.Seq.{take-all}
+use Rattle.common.specs.Lists.{sum}
+use Rattle.book.proofs.SoundLaws.{sum-taken, zero-sum}
+use Rattle.book.proofs.SumLaws.{most}
 use Rattle.book.proofs.sound.all_zero.Statement.{statement}
 use Rattle.book.proofs.sound.all_zero.Tie as tie
 
 abbrev Inv-loop : tie.InvT-loop
-Inv-loop words k₀ k = (k ≤ length words) × (every isZero words ≡ every isZero (drop k words))
+Inv-loop words total₀ k₀ total k = (k ≤ length words) × (total ≤ k * most) × (total ≡ sum (take k words))
 
 abbrev μ-loop : tie.MeasureT-loop
-μ-loop words k₀ k = length words - k
+μ-loop words total₀ k₀ total k = length words - k
 
 loop-holds : tie.Need-loop-holds Inv-loop μ-loop
-loop-holds c = (omega arith, refl)
+unfolding sum
+loop-holds c = (omega arith, omega arith, refl)
 
-mul-if1 : tie.Need-mul-if1 Inv-loop μ-loop
-mul-if1 c = omega arith
+mul-sum : tie.Need-mul-sum Inv-loop μ-loop
+mul-sum c = omega arith
 
-shared-slice-read-if1 : tie.Need-shared-slice-read-if1 Inv-loop μ-loop
-shared-slice-read-if1 c = omega arith
+shared-slice-read-sum : tie.Need-shared-slice-read-sum Inv-loop μ-loop
+shared-slice-read-sum c = omega arith
 
-returns : tie.Need-returns Inv-loop μ-loop
-returns c = let l = c .before .before .before in sym (l .loop .inv .1 ∙ (every-step isZero _ _ 0 (c .before .before .loop-test .taken) ∙ rw (ne-eqb _ _ (c .if1 .taken))))
+cast-sum : tie.Need-cast-sum Inv-loop μ-loop
+cast-sum c = omega (arith, c .shared-slice-known .given (c .before .before .loop .k))
+
+add-sum : tie.Need-add-sum Inv-loop μ-loop
+add-sum c = omega (arith, c .shared-slice-known .given (c .before .before .loop .k), c .before .before .before .pre)
 
 add-k : tie.Need-add-k Inv-loop μ-loop
 add-k c = omega arith
@@ -36,10 +41,16 @@ loop-less : tie.Need-loop-less Inv-loop μ-loop
 loop-less c = omega arith
 
 loop-again : tie.Need-loop-again Inv-loop μ-loop
-loop-again c = let l = c .before .before .before in (omega arith, l .loop .inv .1 ∙ (every-step isZero _ _ 0 (c .before .before .loop-test .taken) ∙ rw (eq-eqb _ _ (c .if1 .left))))
+loop-again c =
+    let l = c .before .before in
+    let w = l .before .args .words .now in
+    (omega arith, omega (arith, c .shared-slice-known .given (l .loop .k)), omega (arith, sum-taken w (l .loop .k) (c .before .loop-test .taken)))
 
-returns-2 : tie.Need-returns-2 Inv-loop μ-loop
-returns-2 c = sym (c .before .loop .inv .1 ∙ every-end isZero _ _ (c .loop-test .left))
+returns : tie.Need-returns Inv-loop μ-loop
+returns c =
+    let l = c .before in
+    let w = l .before .args .words .now in
+    ap (λ n. eqb n 0) (l .loop .inv .2 ∙ ap sum (take-all (l .loop .k) w (c .loop-test .left))) ∙ zero-sum w
 
 pub all-zero-spec : {M : Type 1} → statement M
 all-zero-spec =
@@ -48,10 +59,11 @@ all-zero-spec =
     Inv-loop
     μ-loop
     loop-holds
-    mul-if1
-    shared-slice-read-if1
-    returns
+    mul-sum
+    shared-slice-read-sum
+    cast-sum
+    add-sum
     add-k
     loop-less
     loop-again
-    returns-2)
+    returns)
