@@ -3,6 +3,7 @@ pub mod EntryLaws
 pub mod QuestionLaws
 pub mod BookingLaws
 pub mod SoundLaws
+pub mod RankLaws
 pub mod SumLaws
 pub mod Kept
 pub mod SaleLaws

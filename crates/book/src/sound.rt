@@ -2,12 +2,13 @@
 ghost use mathlib.Core.Path.{_≡_};
 ghost use Prim.Native.Nat.{_+_, _*_, _≤_, _<_};
 ghost use lib.Dec.{eqb, leb};
-ghost use lib.ListN.{length, drop};
+ghost use lib.ListN.{length, getD, drop};
 ghost use Rattle.common.specs.Least.{least};
 ghost use Rattle.common.specs.Lists.{every, upTo};
 ghost use Rattle.fares.specs.Reductions.{partBound};
 ghost use Rattle.book.specs.Words.{capacity, bookLength, width, questionWidth, entryOf, entryAt};
 ghost use Rattle.book.specs.Sound.{isZero, numberInLimits, askedSound, entrySound, numbersDiffer, soundWords};
+ghost use Rattle.book.specs.Ranks.{rank, RanksUpTo, repeatsEarlier};
 use super::words::ASKED;
 use super::words::CAPACITY;
 use super::words::LEG_COUNT;
@@ -112,15 +113,39 @@ fn entries_sound(book: &[u32], n: usize) -> bool
     true
 }
 
+// The sale number of the entry that starts at a place, as one number.
+fn rank_at(book: &[u32], at: usize) -> u64
+    requires { ⌜ at + 2 ≤ length (now book) ⌝ }
+    ensures { λ r. ⌜ r ≡ rank (getD (now (book .entry)) at 0) (getD (now (book .entry)) (at + 1) 0) ⌝ }
+{
+    (book[at] as u64) * 4294967296 + (book[at + SEQUENCE] as u64)
+}
+
+// Whether entry i has the number of an earlier one, none of which ranks above `top`. Only a number that does not rank above them is looked for.
+fn repeats_earlier(book: &[u32], i: usize, top: u64) -> bool
+    requires { ⌜ (i < capacity) × (1 + i * width + width ≤ length (now book)) × RanksUpTo (now book) i top ⌝ }
+    ensures { λ r. ⌜ r ≡ repeatsEarlier (now (book .entry)) i ⌝ }
+{
+    let at = 1 + i * WIDTH;
+    if top < rank_at(book, at) {
+        return false;
+    }
+    super::entries::find(book, i, book[at], book[at + SEQUENCE]) < i
+}
+
 fn numbers_differ(book: &[u32], n: usize) -> bool
     requires { ⌜ (n ≤ capacity) × (1 + n * width ≤ length (now book)) ⌝ }
     ensures { λ r. ⌜ r ≡ numbersDiffer (upTo (entryAt (now (book .entry))) n) ⌝ }
 {
+    let mut top: u64 = 0;
     let mut i = 0;
     while i < n {
-        let at = 1 + i * WIDTH;
-        if super::entries::find(book, i, book[at], book[at + SEQUENCE]) < i {
+        if repeats_earlier(book, i, top) {
             return false;
+        }
+        let rank = rank_at(book, 1 + i * WIDTH);
+        if top < rank {
+            top = rank;
         }
         i += 1;
     }

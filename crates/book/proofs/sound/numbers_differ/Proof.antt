@@ -1,70 +1,54 @@
--- `book::sound::numbers_differ` meets its contract. The loop's invariant: no entry passed repeats an earlier number.
+-- `book::sound::numbers_differ` meets its contract. The loop's invariant: no entry passed repeats an earlier number or ranks above `top`.
 -- Assumes nothing.
 use Prim.Native.Nat.{_≤_, _-_}
 use mathlib.Core.Path.{_≡_, sym, _∙_}
-use native.Mathlib.Nat.{add-zero}
+use mathlib.Core.Logic.{⊎-elim}
 use native.Mathlib.Omega.{arith}
-use lib.Dec.{ltb}
-use borrow.Author.Tests.{lt-ltb, le-ltb}
 use Rattle.common.specs.Least.{least}
 use Rattle.common.specs.Lists.{upTo}
 use Rattle.common.proofs.Least.{start, more}
 use Rattle.book.specs.Words.{entryAt}
 use Rattle.book.specs.Sound.{repeats}
-use Rattle.book.proofs.Blocks.{word-at}
+use Rattle.book.specs.Ranks.{RanksUpTo}
 use Rattle.book.proofs.SoundLaws.{repeats-at, number-repeats, none-repeats}
+use Rattle.book.proofs.RankLaws.{rank-words, ranks-none, ranks-more}
 use Rattle.book.proofs.sound.numbers_differ.Statement.{statement}
 use Rattle.book.proofs.sound.numbers_differ.Tie as tie
 
 abbrev Inv-loop : tie.InvT-loop
-Inv-loop book n i₀ i = (i ≤ n) × (least (repeats (upTo (entryAt book) n)) i ≡ i)
+Inv-loop book n top₀ i₀ top i = (i ≤ n) × (least (repeats (upTo (entryAt book) n)) i ≡ i) × RanksUpTo book i top
 
 abbrev μ-loop : tie.MeasureT-loop
-μ-loop book n i₀ i = n - i
+μ-loop book n top₀ i₀ top i = n - i
 
--- the search for the number of entry i among the earlier ones is the test that it repeats one
-tested : (c : tie.After-find Inv-loop μ-loop) → let l = c .before .before .before .before in let a = l .before .before .args in
-    repeats (upTo (entryAt (a .book .now)) (a .n)) (l .loop .i) ≡ ltb (c .find .result) (l .loop .i)
+-- the test of entry i is the definition's
+tested : (c : tie.After-repeats-earlier Inv-loop μ-loop) → let l = c .before .before in let a = l .before .before .args in
+    repeats (upTo (entryAt (a .book .now)) (a .n)) (l .loop .i) ≡ c .repeats-earlier .result
 tested c =
-    let l = c .before .before .before .before in
+    let l = c .before .before in
     let a = l .before .before .args in
-    let w = a .book .now in
-    let i = l .loop .i in
-    let t = c .before .before .before .loop-test .taken in
-    repeats-at (entryAt w) (a .n) i t ∙ rw (word-at w i 0 (omega arith), word-at w i 1 (omega arith), add-zero, c .find .ensures)
+    repeats-at (entryAt (a .book .now)) (a .n) (l .loop .i) (c .before .loop-test .taken) ∙ sym (c .repeats-earlier .ensures)
 
 loop-holds : tie.Need-loop-holds Inv-loop μ-loop
-loop-holds c = (omega arith, start _)
+loop-holds c = (omega arith, start _, ranks-none (c .before .args .book .now) 0)
 
-mul-at : tie.Need-mul-at Inv-loop μ-loop
-mul-at c = omega arith
-
-add-at : tie.Need-add-at Inv-loop μ-loop
-add-at c = omega arith
-
-mul-find : tie.Need-mul-find Inv-loop μ-loop
-mul-find c = omega arith
-
-shared-slice-read-find : tie.Need-shared-slice-read-find Inv-loop μ-loop
-shared-slice-read-find c = omega arith
-
-add-find : tie.Need-add-find Inv-loop μ-loop
-add-find c = omega arith
-
-mul-find-2 : tie.Need-mul-find-2 Inv-loop μ-loop
-mul-find-2 c = omega arith
-
-shared-slice-read-find-2 : tie.Need-shared-slice-read-find-2 Inv-loop μ-loop
-shared-slice-read-find-2 c = omega arith
-
-find-requires : tie.Need-find-requires Inv-loop μ-loop
-find-requires c κs = omega arith
+repeats-earlier-requires : tie.Need-repeats-earlier-requires Inv-loop μ-loop
+repeats-earlier-requires c κs = (omega arith, omega arith, c .before .loop .inv .2)
 
 returns : tie.Need-returns Inv-loop μ-loop
-returns c = let l = c .before .before .before .before .before in
+returns c =
+    let l = c .before .before .before in
     let a = l .before .before .args in
-    let t = c .before .before .before .before .loop-test .taken in
-    sym (number-repeats (entryAt (a .book .now)) (a .n) (l .loop .i) t (l .loop .inv .1) (tested (c .before) ∙ lt-ltb _ _ (c .if1 .taken)))
+    sym (number-repeats (entryAt (a .book .now)) (a .n) (l .loop .i) (c .before .before .loop-test .taken) (l .loop .inv .1) (tested (c .before) ∙ c .if1 .taken))
+
+mul-rank-at : tie.Need-mul-rank-at Inv-loop μ-loop
+mul-rank-at c = omega arith
+
+add-rank-at : tie.Need-add-rank-at Inv-loop μ-loop
+add-rank-at c = omega arith
+
+rank-at-requires : tie.Need-rank-at-requires Inv-loop μ-loop
+rank-at-requires c κs = omega arith
 
 add-i : tie.Need-add-i Inv-loop μ-loop
 add-i c = omega arith
@@ -73,11 +57,25 @@ loop-less : tie.Need-loop-less Inv-loop μ-loop
 loop-less c = omega arith
 
 loop-again : tie.Need-loop-again Inv-loop μ-loop
-loop-again c = let l = c .before .before .before .before .before in
-    (omega arith, more _ (l .loop .i) (l .loop .inv .1) (tested (c .before) ∙ le-ltb _ _ (c .if1 .left)))
+loop-again c =
+    let r = c .before in
+    let e = r .before in
+    let l = e .before .before .before in
+    let w = l .before .before .args .book .now in
+    let i = l .loop .i in
+    let ranked = r .rank-at .ensures ∙ rank-words w i in
+    (
+      omega arith,
+      more _ i (l .loop .inv .1) (tested (e .before) ∙ e .if1 .left),
+      ⊎-elim
+      (λ t. ranks-more w i (l .loop .top) _ (l .loop .inv .2) (omega (arith, t .0 .taken)) (omega (arith, ranked)))
+      (λ t. ranks-more w i (l .loop .top) _ (l .loop .inv .2) (omega arith) (omega (arith, ranked, t .0 .left)))
+      (c .if2 .came),
+    )
 
 returns-2 : tie.Need-returns-2 Inv-loop μ-loop
-returns-2 c = let l = c .before in
+returns-2 c =
+    let l = c .before in
     let a = l .before .before .args in
     let e : l .loop .i ≡ a .n = omega arith in
     sym (none-repeats (entryAt (a .book .now)) (a .n) (rw e at (l .loop .inv .1)))
@@ -89,15 +87,11 @@ numbers-differ-spec =
     Inv-loop
     μ-loop
     loop-holds
-    mul-at
-    add-at
-    mul-find
-    shared-slice-read-find
-    add-find
-    mul-find-2
-    shared-slice-read-find-2
-    find-requires
+    repeats-earlier-requires
     returns
+    mul-rank-at
+    add-rank-at
+    rank-at-requires
     add-i
     loop-less
     loop-again
