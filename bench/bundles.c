@@ -1,0 +1,183 @@
+#include "bundles.h"
+
+#include <stdio.h>
+#include <stdlib.h>
+#include <string.h>
+
+enum { MARK = 2, RECORD_ROOM = 1300 };
+
+static const char MARKS[] = "CO RE AR ME";
+static const size_t LENGTHS[] = {155, 440, 49, 1231};
+
+const struct recipe TEXT_HEAVY = {"text-heavy", 1, 0, 100, 34};
+const struct recipe CO_HEAVY = {"CO-heavy", 100, 1, 0, 0};
+const struct recipe AR_HEAVY = {"AR-heavy", 1, 100, 0, 0};
+const struct recipe MIXED = {"mixed", 5, 5, 1, 0};
+
+/* ---- chance */
+
+unsigned chance(unsigned limit) {
+    static uint64_t state = 88172645463325252u;
+    state ^= state << 13;
+    state ^= state >> 7;
+    state ^= state << 17;
+    return (unsigned)(state >> 32) % limit;
+}
+
+/* Words of letters, some with an accent, and blanks: ISO 8859-1. */
+static void write_text(char *to, size_t n) {
+    for (size_t i = 0; i < n; i++) {
+        unsigned c = chance(20);
+        to[i] = (char)(c < 3 ? ' ' : c < 4 ? 0xC0 + chance(64) : 'a' + chance(26));
+    }
+    to[n] = '\0';
+}
+
+/* ---- records */
+
+static int fits(const struct bundle *b, size_t size, size_t bytes) { return b->length + bytes <= size; }
+
+static void add(struct bundle *b, const char *record) {
+    size_t n = strlen(record);
+    memcpy(b->bytes + b->length, record, n);
+    b->length += n;
+    b->records++;
+}
+
+static void add_re(struct bundle *b, unsigned code) {
+    char text[416], record[RECORD_ROOM];
+    write_text(text, 415);
+    snprintf(record, sizeof record, "RE1185%03u%s202401010120241231", code, text);
+    add(b, record);
+}
+
+static void add_co(struct bundle *b, struct recipe recipe, unsigned offer, unsigned railway) {
+    char text[101], record[RECORD_ROOM];
+    write_text(text, 100);
+    snprintf(record, sizeof record, "CO1185%05u%04u%sN01991NN%cNNN%cN025000+005202401010120241231", offer, railway, text,
+             recipe.ar > 0 ? 'Y' : 'N', recipe.me > 0 ? 'Y' : 'N');
+    add(b, record);
+}
+
+static void add_ar(struct bundle *b, unsigned offer, unsigned railway) {
+    char record[RECORD_ROOM];
+    snprintf(record, sizeof record, "AR1185%05u%04u001030000Y001N+050202401010120241231", offer, railway);
+    add(b, record);
+}
+
+static void add_me(struct bundle *b, unsigned offer, unsigned railway) {
+    char text[1201], record[RECORD_ROOM];
+    write_text(text, 1200);
+    snprintf(record, sizeof record, "ME1185%05u%04u%s202401010120241231", offer, railway, text);
+    add(b, record);
+}
+
+/* ---- bundles */
+
+static void add_types(struct bundle *b, struct recipe recipe, size_t size) {
+    size_t share = size * (size_t)recipe.re_percent / 100;
+    unsigned code = 1;
+    do add_re(b, code++);
+    while (fits(b, share, MARK + LENGTHS[1]) && code <= BUNDLE_CODES);
+}
+
+/* Bytes of an offer's records for one railway. */
+static size_t bytes_for(struct recipe recipe, int railway) {
+    return (recipe.co > railway) * (MARK + LENGTHS[0]) + (recipe.ar > railway) * (MARK + LENGTHS[2]) + (recipe.me > railway) * (MARK + LENGTHS[3]);
+}
+
+static void add_railway(struct bundle *b, struct recipe recipe, unsigned offer, int railway) {
+    if (recipe.co > railway) add_co(b, recipe, offer, (unsigned)railway);
+    if (recipe.ar > railway) add_ar(b, offer, (unsigned)railway);
+    if (recipe.me > railway) add_me(b, offer, (unsigned)railway);
+}
+
+void make_bundle(struct bundle *b, struct recipe recipe, size_t size) {
+    b->length = b->records = 0;
+    add_types(b, recipe, size);
+    unsigned offer = 1;
+    int railway = 0;
+    for (size_t bytes; fits(b, size, bytes = bytes_for(recipe, railway)); railway++) {
+        if (bytes == 0) {
+            offer++;
+            railway = -1;
+            continue;
+        }
+        add_railway(b, recipe, offer, railway);
+    }
+}
+
+/* An offer has 10,000 railways, and with one code as many keys: three offers are enough for all AR records. */
+enum { COSTLIEST_OFFERS = 3, RAILWAYS = 10000 };
+
+static void add_needed(struct bundle *b) {
+    const struct recipe no_links = {"", 1, 0, 0, 0};
+    for (unsigned offer = 1; offer <= COSTLIEST_OFFERS; offer++) add_co(b, no_links, offer, 0);
+    add_re(b, 1);
+}
+
+void make_costliest(struct bundle *b, int needed_last) {
+    size_t needed = COSTLIEST_OFFERS * (MARK + LENGTHS[0]) + MARK + LENGTHS[1];
+    b->length = b->records = 0;
+    if (!needed_last) add_needed(b);
+    size_t end = needed_last ? BUNDLE_LIMIT - needed : BUNDLE_LIMIT;
+    for (unsigned k = 0; fits(b, end, MARK + LENGTHS[2]); k++) add_ar(b, 1 + k / RAILWAYS, k % RAILWAYS);
+    if (needed_last) add_needed(b);
+}
+
+/* ---- records of a made bundle, which is valid */
+
+static size_t length_at(const struct bundle *b, size_t at) {
+    const char *found = strstr(MARKS, (char[3]){(char)b->bytes[at], (char)b->bytes[at + 1], '\0'});
+    return MARK + LENGTHS[(found - MARKS) / 3];
+}
+
+static size_t start_of(const struct bundle *b, size_t record) {
+    size_t at = 0;
+    while (record-- > 0) at += length_at(b, at);
+    return at;
+}
+
+unsigned middle_offer(const struct bundle *b) {
+    size_t middle = b->records / 2;
+    char offer[6] = "";
+    memcpy(offer, b->bytes + start_of(b, middle) + MARK + 4, 5);
+    return (unsigned)atoi(offer);
+}
+
+/* ---- damage */
+
+static void change_byte(struct bundle *b) {
+    static const char LIKELY[] = " 019YN+-0CRAMEO\n\x7f\xa0";
+    size_t start = start_of(b, chance((unsigned)b->records));
+    size_t length = length_at(b, start);
+    size_t last_bytes = chance(2) && length > 60 ? 60 : length;
+    size_t at = start + length - 1 - chance((unsigned)last_bytes);
+    b->bytes[at] = chance(4) ? (uint8_t)LIKELY[chance(sizeof LIKELY - 1)] : (uint8_t)chance(256);
+}
+
+static void cut_end(struct bundle *b) { b->length -= 1 + chance(200); }
+
+/* One record's first bytes, key and all, over another's: a repeated key, a lost link, or, between tables, a broken field. */
+static void copy_start(struct bundle *b) {
+    size_t from = start_of(b, chance((unsigned)b->records)), to = start_of(b, chance((unsigned)b->records));
+    size_t most = MARK + 16;
+    if (b->bytes[from] == b->bytes[to]) memmove(b->bytes + to, b->bytes + from, most);
+    else memmove(b->bytes + to + MARK, b->bytes + from + MARK, 4 + chance(10));
+}
+
+static void change_transferor(struct bundle *b) { b->bytes[start_of(b, chance((unsigned)b->records)) + MARK + 3] = (uint8_t)('0' + chance(10)); }
+
+static void change_offer(struct bundle *b) { b->bytes[start_of(b, chance((unsigned)b->records)) + MARK + 4 + chance(3)] = '7'; }
+
+static void remove_record(struct bundle *b) {
+    size_t at = start_of(b, chance((unsigned)b->records)), n = length_at(b, at);
+    memmove(b->bytes + at, b->bytes + at + n, b->length - at - n);
+    b->length -= n;
+}
+
+void damage(struct bundle *b) {
+    static void (*const WAYS[])(struct bundle *) = {change_byte, change_byte, change_byte, cut_end, copy_start, copy_start, change_transferor,
+                                                    change_offer, remove_record};
+    WAYS[chance(sizeof WAYS / sizeof *WAYS)](b);
+}

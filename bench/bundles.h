@@ -1,0 +1,40 @@
+/* Valid bundles of a wanted size, damage to them, and the numbers by chance that both use. The same at every run. */
+#ifndef BUNDLES_H
+#define BUNDLES_H
+
+#include <stddef.h>
+#include <stdint.h>
+
+enum { BUNDLE_LIMIT = 1048576, BUNDLE_DAY = 20240615, BUNDLE_CODES = 999 };
+
+struct bundle {
+    uint8_t bytes[BUNDLE_LIMIT + 1];
+    size_t length, records;
+};
+
+/* What each offer of a bundle has: so many CO, AR and ME records, the first for all railways, then railways 1, 2, ... Before the offers stand
+ * RE records: one, or as many as fill `re_percent` of the size. */
+struct recipe {
+    const char *name;
+    int co, ar, me, re_percent;
+};
+
+extern const struct recipe TEXT_HEAVY, CO_HEAVY, AR_HEAVY, MIXED;
+
+/* Fills `size` bytes as far as whole records do. Offers count from 1, codes too. */
+void make_bundle(struct bundle *b, struct recipe recipe, size_t size);
+
+/* The costliest bundle there is: as many AR records as fit beside the one RE and the three CO records that they need, all keys different. Every
+ * pair of records is compared; with RE and CO last every search for a link walks the whole bundle, with them first it ends at once. */
+void make_costliest(struct bundle *b, int needed_last);
+
+/* The offer of the record in the middle of a made bundle: one to price. */
+unsigned middle_offer(const struct bundle *b);
+
+/* Breaks a bundle in one of several ways, or by luck leaves it good. */
+void damage(struct bundle *b);
+
+/* A number below `limit`. */
+unsigned chance(unsigned limit);
+
+#endif

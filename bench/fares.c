@@ -1,0 +1,104 @@
+/* A fare beside plain C of the same rules and beside the verdict that stands in it: fares [RUNS]. */
+#include "bundles.h"
+#include "measure.h"
+#include "validator.h"
+
+#include <stdio.h>
+#include <stdlib.h>
+#include <string.h>
+
+enum { KIB = 1024, ASKED = 600 };
+
+static struct bundle bundle, broken;
+
+/* A small bundle has one offer: 1 RE, 5 CO, 5 AR and 1 ME. */
+static const size_t SMALL = 2715, LARGE = 64 * KIB;
+
+/* Legs on railways 1 to 8; only 1 to 4 have records of their own. */
+static offers_question question_of(unsigned offer, uint32_t legs, uint32_t card) {
+    offers_question q = {.offer = offer, .day = BUNDLE_DAY, .persons = 2, .card = card, .count = legs};
+    for (uint32_t k = 0; k < legs; k++) q.legs[k] = (offers_leg){1 + k, 1010 + 100 * k};
+    return q;
+}
+
+/* ---- the same answers */
+
+static offers_quote agreed(const struct bundle *b, offers_question q) {
+    offers_quote engine = offers_fare(b->bytes, b->length, q), plain = plain_fare(b->bytes, b->length, q);
+    demand(memcmp(&engine, &plain, sizeof engine) == 0, "the fares of the engine and of plain C differ");
+    return engine;
+}
+
+static offers_question random_question(void) {
+    static const uint32_t DAYS[] = {BUNDLE_DAY, 20240101, 20241231, 20250101, 20240230};
+    offers_question q = {.offer = 1 + chance(4), .day = chance(4) ? BUNDLE_DAY : DAYS[chance(5)], .persons = chance(8), .card = chance(3), .count = 1 + chance(8)};
+    for (uint32_t k = 0; k < q.count; k++) q.legs[k] = (offers_leg){1 + chance(6), chance(1000000)};
+    return q;
+}
+
+/* A byte of a CO record changed, or none: some of these bundles are still valid, and price otherwise. */
+static void change_conditions(struct bundle *b) {
+    static const char LIKELY[] = "0123456789YN+-0 ";
+    for (size_t at = 442; at < b->length && b->bytes[at] == 'C'; at += 157 + 51)
+        if (chance(3) == 0) b->bytes[at + 2 + 112 + chance(43)] = (uint8_t)LIKELY[chance(sizeof LIKELY - 1)];
+}
+
+static void compare_on_random(void) {
+    unsigned answered = 0;
+    for (unsigned k = 0; k < ASKED; k++) {
+        make_bundle(&broken, MIXED, 5000);
+        if (k % 3 == 0) change_conditions(&broken);
+        answered += agreed(&broken, random_question()).number == 0;
+    }
+    printf("The same fare for %d random questions, %u of them answered.\n", ASKED, answered);
+    demand(answered > ASKED / 10, "hardly a random question is answered");
+}
+
+/* ---- the times */
+
+struct asked {
+    offers_question question;
+    uint64_t fare;
+};
+
+static void engine(void *with) {
+    struct asked *a = with;
+    a->fare = offers_fare(bundle.bytes, bundle.length, a->question).fare;
+}
+
+static void plain(void *with) {
+    struct asked *a = with;
+    a->fare = plain_fare(bundle.bytes, bundle.length, a->question).fare;
+}
+
+static void verdict(void *with) {
+    struct asked *a = with;
+    a->fare = offers_verdict(bundle.bytes, bundle.length).records;
+}
+
+static double best(int runs, action *work, struct asked *a) { return time_of(runs, calls_for(NULL, work, a), NULL, work, a); }
+
+static void compare_question(int runs, uint32_t legs, uint32_t card) {
+    struct asked a = {question_of(middle_offer(&bundle), legs, card), 0};
+    demand(agreed(&bundle, a.question).number == 0, "a question made to be answered is not");
+    char what[80];
+    snprintf(what, sizeof what, "%u leg%s, %s, %zu bytes", legs, legs == 1 ? "" : "s", card == 0 ? "no card" : "card", bundle.length);
+    double took = best(runs, engine, &a);
+    tell(what, took, "plain C", best(runs, plain, &a));
+    tell(what, took, "the engine's verdict", best(runs, verdict, &a));
+}
+
+static void compare_bundle(int runs, size_t size) {
+    make_bundle(&bundle, MIXED, size);
+    for (uint32_t legs = 1; legs <= 8; legs += 7)
+        for (uint32_t card = 0; card <= 1; card++) compare_question(runs, legs, card);
+}
+
+int main(int argc, char **argv) {
+    int runs = argc > 1 ? atoi(argv[1]) : 3;
+    tell_heading("A fare");
+    compare_on_random();
+    compare_bundle(runs, SMALL);
+    compare_bundle(runs, LARGE);
+    return 0;
+}

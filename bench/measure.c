@@ -1,0 +1,61 @@
+#include "measure.h"
+
+#include <stdio.h>
+#include <stdlib.h>
+#include <time.h>
+
+static double now(void) {
+    struct timespec t;
+    clock_gettime(CLOCK_PROCESS_CPUTIME_ID, &t);
+    return (double)t.tv_sec + (double)t.tv_nsec / 1e9;
+}
+
+/* What reading the clock costs by itself, found once. */
+static double cost_of_clock(void) {
+    static double least = -1;
+    if (least >= 0) return least;
+    least = 1;
+    for (int k = 0; k < 1000; k++) {
+        double began = now(), took = now() - began;
+        if (took < least) least = took;
+    }
+    return least;
+}
+
+static double mean_of(int calls, action *before, action *work, void *with) {
+    double sum = 0;
+    for (int k = 0; k < calls; k++) {
+        if (before != NULL) before(with);
+        double began = now();
+        work(with);
+        sum += now() - began - cost_of_clock();
+    }
+    return sum / calls;
+}
+
+double time_of(int runs, int calls, action *before, action *work, void *with) {
+    double best = mean_of(calls, before, work, with);
+    for (int run = 1; run < runs; run++) {
+        double mean = mean_of(calls, before, work, with);
+        if (mean < best) best = mean;
+    }
+    return best;
+}
+
+int calls_for(action *before, action *work, void *with) {
+    double once = mean_of(1, before, work, with);
+    return once > 0.01 ? 1 : (int)(0.01 / (once > 1e-6 ? once : 1e-6));
+}
+
+void tell_heading(const char *title) { printf("\n%s\n%-44s %13s  %-22s %13s %8s\n", title, "", "engine, us", "beside", "its time, us", "ratio"); }
+
+void tell(const char *what, double engine, const char *other_name, double other) {
+    printf("%-44s %13.2f  %-22s %13.2f %8.2f\n", what, engine * 1e6, other_name, other * 1e6, engine / other);
+    fflush(stdout);
+}
+
+void demand(int holds, const char *what) {
+    if (holds) return;
+    printf("FAILED: %s\n", what);
+    exit(1);
+}

@@ -1,0 +1,108 @@
+/* The fare, plainly in C: verdict, limits, and then the legs from the first. */
+#include "validator.h"
+
+#include <stdbool.h>
+#include <string.h>
+
+enum { CENT = 100000, MOST_LEGS = 8 };
+
+/* ---- the question */
+
+static bool legs_in_limits(const offers_question *q) {
+    for (uint32_t k = 0; k < q->count; k++)
+        if (q->legs[k].railway < 1 || q->legs[k].railway > 9999 || q->legs[k].fare > 999999) return false;
+    return true;
+}
+
+static bool in_limits(const offers_question *q) {
+    return q->offer >= 1 && q->offer <= 99999 && plain_is_day(q->day) && q->persons >= 1 && q->persons <= 99 && q->card <= 999 && q->count >= 1 &&
+           q->count <= MOST_LEGS && legs_in_limits(q);
+}
+
+/* ---- the records of a leg */
+
+/* The offer's record for the railway or else for all railways, NULL if there is neither. `code` is not looked at if it is 0. */
+static const uint8_t *choose(const uint8_t *bundle, size_t length, const struct plain_table *wanted, long offer, long railway, long code) {
+    const uint8_t *general = NULL;
+    for (size_t at = 0; at < length;) {
+        const struct plain_table *table = plain_table_at(bundle + at, length - at);
+        const uint8_t *record = bundle + at + PLAIN_MARK;
+        at += plain_step(table);
+        if (table != wanted || plain_number(record, 5, 5) != offer || (code != 0 && plain_number(record, 14, 3) != code)) continue;
+        long own = plain_number(record, 10, 4);
+        if (own == railway) return record;
+        if (own == 0 && general == NULL) general = record;
+    }
+    return general;
+}
+
+static bool holds_day(const struct plain_table *table, const uint8_t *record, long day) {
+    size_t length = plain_step(table) - PLAIN_MARK;
+    return plain_number(record, length - 17, 8) <= day && day <= plain_number(record, length - 7, 8);
+}
+
+static bool persons_fit(const uint8_t *co, long persons) {
+    long least = plain_number(co, 115, 2), most = plain_number(co, 117, 2);
+    return persons >= least && (most < 0 || persons <= most);
+}
+
+/* The first condition that is set and not read, 0 if none is. */
+static uint64_t unread_condition(const uint8_t *co) {
+    static const unsigned FIELDS[5] = {27, 31, 32, 34, 35}, POSITIONS[5] = {114, 120, 121, 123, 124};
+    for (size_t k = 0; k < 5; k++)
+        if (co[POSITIONS[k] - 1] == 'Y') return FIELDS[k];
+    return 0;
+}
+
+/* ---- the amount */
+
+/* An exact amount, in hundred-thousandths of a cent, rounded to cents. */
+static uint64_t rounded(uint64_t exact, uint8_t rounding, uint64_t factor) {
+    uint64_t unit = factor * CENT;
+    switch (rounding) {
+    case '+': return (exact + unit - 1) / unit * factor;
+    case '-': return exact / unit * factor;
+    case '0': return (2 * exact + unit) / (2 * unit) * factor;
+    default: return (2 * exact + CENT) / (2 * CENT);
+    }
+}
+
+static uint64_t reduced(uint64_t amount, const uint8_t *record, size_t discount_at, size_t rounding_at) {
+    long discount = plain_number(record, discount_at, 6);
+    uint64_t kept = (uint64_t)(CENT - (discount < 0 ? 0 : discount));
+    return rounded(amount * kept, record[rounding_at - 1], (uint64_t)plain_number(record, rounding_at + 1, 3));
+}
+
+static uint64_t after_card(const uint8_t *bundle, size_t length, const offers_question *q, long railway, const uint8_t *co, uint64_t amount) {
+    if (q->card == 0 || co[122 - 1] != 'Y') return amount;
+    const uint8_t *ar = choose(bundle, length, &PLAIN_AR, q->offer, railway, q->card);
+    return ar != NULL && holds_day(&PLAIN_AR, ar, q->day) ? reduced(amount, ar, 17, 28) : amount;
+}
+
+/* ---- the fare */
+
+static offers_quote refused(uint64_t number, uint64_t place, uint64_t detail) { return (offers_quote){number, place, detail, 0, {0}}; }
+
+static offers_quote price(const uint8_t *bundle, size_t length, const offers_question *q) {
+    offers_quote quote = {0};
+    for (uint32_t k = 0; k < q->count; k++) {
+        long railway = q->legs[k].railway;
+        const uint8_t *co = choose(bundle, length, &PLAIN_CO, q->offer, railway, 0);
+        if (co == NULL) return refused(OFFERS_NO_CONDITIONS, k, 0);
+        if (!holds_day(&PLAIN_CO, co, q->day)) return refused(OFFERS_DAY_OUTSIDE, k, 0);
+        if (!persons_fit(co, q->persons)) return refused(OFFERS_PERSONS_OUTSIDE, k, 0);
+        uint64_t unread = unread_condition(co);
+        if (unread != 0) return refused(OFFERS_CONDITION_UNREAD, k, unread);
+        uint64_t amount = after_card(bundle, length, q, railway, co, reduced(q->legs[k].fare, co, 128, 134));
+        quote.parts[k] = (uint32_t)(amount * q->persons);
+        quote.fare += quote.parts[k];
+    }
+    return quote.fare > UINT32_MAX ? refused(OFFERS_FARE_TOO_HIGH, 0, 0) : quote;
+}
+
+offers_quote plain_fare(const uint8_t *bundle, size_t length, offers_question question) {
+    offers_judgement judgement = plain_verdict(bundle, length);
+    if (judgement.number != 0) return refused(judgement.number, judgement.place, judgement.detail);
+    if (!in_limits(&question)) return refused(OFFERS_QUESTION_LIMITS, 0, 0);
+    return price(bundle, length, &question);
+}
