@@ -172,7 +172,7 @@ static void compare(int runs, const char *call, action *engine_before, action *e
 static void compare_at(int runs, uint64_t entries) {
     fill(entries);
     compare(runs, "sale of 4 legs", restore_book, engine_sale, forget, sqlite_sale);
-    compare(runs, "the same sale again", NULL, engine_sale, NULL, sqlite_sale);
+    compare(runs, "that sale sent again", NULL, engine_sale, NULL, sqlite_sale);
     restore_book(NULL);
     forget(NULL);
     compare(runs, entries == 0 ? "cancel, unknown" : "cancel", restore_book, engine_cancel, revive, sqlite_cancel);
