@@ -1,6 +1,7 @@
 pub mod Blocks
 pub mod EntryLaws
 pub mod QuestionLaws
+pub mod SaidLaws
 pub mod BookingLaws
 pub mod SoundLaws
 pub mod RankLaws

@@ -44,7 +44,7 @@ module _ (q : Question) where
   ws = questionWords q
 
   -- a word of a leg
-  leg-word : (j r : ℕ) → j < 8 → r < 4 → getD ws (19 + 4 * j + r) 0 ≡ legWord (legAt q j) r
+  pub leg-word : (j r : ℕ) → j < 8 → r < 4 → getD ws (19 + 4 * j + r) 0 ≡ legWord (legAt q j) r
   unfolding questionWord
   leg-word j r l m =
       let k = 19 + 4 * j + r in

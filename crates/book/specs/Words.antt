@@ -2,7 +2,7 @@
 -- there from the first day, and are zero.
 -- Assumes nothing.
 use Prim.Native.Nat.{ℕ, _+_, _-_, _*_, _/_, _%_}
-use mathlib.Core.Bool.{cond, _&&_}
+use mathlib.Core.Bool.{Bool, cond, _&&_}
 use mathlib.Core.List.{List, [], _∷_, _++_}
 use lib.Dec.{eqb, ltb}
 use lib.ListN.{getD, take, drop}
@@ -85,6 +85,12 @@ legAt q j = cond (ltb j (q .count) && ltb j 8) (getD (q .legs) j noLeg) noLeg
 
 abbrev pub legWord : Leg → ℕ → ℕ
 legWord leg r = cond (eqb r 0) (leg .railway) (cond (eqb r 1) (leg .fare) 0)
+
+-- the four words of leg j are those of a leg
+abbrev pub legSays : List ℕ → ℕ → Leg → Bool
+legSays ws j leg =
+    let at : ℕ = legsAt + 4 * j in
+    eqb (getD ws at 0) (leg .railway) && (eqb (getD ws (at + 1) 0) (leg .fare) && (eqb (getD ws (at + 2) 0) 0 && eqb (getD ws (at + 3) 0) 0))
 
 unfoldable pub questionWord : Question → ℕ → ℕ
 questionWord q k =

@@ -3,7 +3,7 @@ ghost use mathlib.Core.Path.{_≡_};
 ghost use Prim.Native.Nat.{_+_, _≤_, _<_};
 ghost use lib.ListN.{length, getD, take, drop};
 ghost use Rattle.common.specs.Lists.{same};
-ghost use Rattle.book.specs.Words.{questionWidth, legAt, legOf, legWord, questionWord, questionWords, questionOf};
+ghost use Rattle.book.specs.Words.{questionWidth, legsAt, legAt, legOf, legSays, legWord, questionWord, questionWords, questionOf};
 use fares::Leg;
 use fares::Question;
 
@@ -147,17 +147,53 @@ pub fn parts_in(book: &[u32], at: usize) -> [u32; 8]
     parts
 }
 
+// Whether the words before the legs are those of a question.
+fn head_says(words: &[u32], q: Question) -> bool
+    requires { ⌜ length (now words) ≡ questionWidth ⌝ }
+    ensures { λ r. ⌜ r ≡ same (take legsAt (now (words .entry))) (take legsAt (questionWords q)) ⌝ }
+{
+    let mut k = 0;
+    while k < LEGS {
+        if words[k] != question_word(q, k) {
+            return false;
+        }
+        k += 1;
+    }
+    true
+}
+
+// Whether the words of leg j are those of a leg.
+fn leg_says(words: &[u32], j: usize, leg: Leg) -> bool
+    requires { ⌜ (length (now words) ≡ questionWidth) × (j < 8) ⌝ }
+    ensures { λ r. ⌜ r ≡ legSays (now (words .entry)) j leg ⌝ }
+{
+    let at = LEGS + LEG_WIDTH * j;
+    if words[at] != leg.railway {
+        return false;
+    }
+    if words[at + 1] != leg.fare {
+        return false;
+    }
+    if words[at + 2] != 0 {
+        return false;
+    }
+    words[at + 3] == 0
+}
+
 // Whether words are those of a question.
 pub fn says(words: &[u32], q: Question) -> bool
     requires { ⌜ length (now words) ≡ questionWidth ⌝ }
     ensures { λ r. ⌜ r ≡ same (now (words .entry)) (questionWords q) ⌝ }
 {
-    let mut k = 0;
-    while k < QUESTION_WIDTH {
-        if words[k] != question_word(q, k) {
+    if !head_says(words, q) {
+        return false;
+    }
+    let mut j = 0;
+    while j < 8 {
+        if !leg_says(words, j, leg_at(q, j)) {
             return false;
         }
-        k += 1;
+        j += 1;
     }
     true
 }

@@ -63,14 +63,13 @@ loop-again c =
     let l = e .before .before .before in
     let w = l .before .before .args .book .now in
     let i = l .loop .i in
-    let ranked = r .rank-at .ensures ∙ rank-words w i in
-    (
+    let ranked = r .rank-at .ensures ∙ rank-words w i in (
       omega arith,
       more _ i (l .loop .inv .1) (tested (e .before) ∙ e .if1 .left),
       ⊎-elim
-      (λ t. ranks-more w i (l .loop .top) _ (l .loop .inv .2) (omega (arith, t .0 .taken)) (omega (arith, ranked)))
-      (λ t. ranks-more w i (l .loop .top) _ (l .loop .inv .2) (omega arith) (omega (arith, ranked, t .0 .left)))
-      (c .if2 .came),
+          (λ t. ranks-more w i (l .loop .top) _ (l .loop .inv .2) (omega (arith, t .0 .taken)) (omega (arith, ranked)))
+          (λ t. ranks-more w i (l .loop .top) _ (l .loop .inv .2) (omega arith) (omega (arith, ranked, t .0 .left)))
+          (c .if2 .came),
     )
 
 returns-2 : tie.Need-returns-2 Inv-loop μ-loop

@@ -1,57 +1,71 @@
--- `book::words::says` meets its contract. The loop's invariant: the words passed are the question's.
+-- `book::words::says` meets its contract. The loop's invariant: the words before leg j are the question's.
 -- Assumes nothing.
-use Prim.Native.Nat.{ℕ, _≤_, _<_, _-_}
-use mathlib.Core.Path.{_≡_, ap, sym, _∙_}
+use Prim.Native.Nat.{ℕ, _+_, _*_, _≤_, _<_, _-_}
+use mathlib.Core.Path.{_≡_, sym, _∙_}
 use native.Mathlib.Omega.{arith}
 use lib.ListN.{getD}
-use lib.Seq.{ext-getD}
-use borrow.Author.Count.{below-none, below-more}
 use borrow.Author.Needs.{needs}
-use Rattle.common.proofs.Lists.{is-same, not-same}
+use Rattle.common.proofs.Tests.{fails, holds}
 use Rattle.book.specs.Words.{questionWord}
-use Rattle.book.proofs.QuestionLaws.{words-length, word-of}
+use Rattle.book.proofs.SaidLaws.{head-differs, head-said, leg-differs, leg-follows, all-said}
 use Rattle.book.proofs.words.says.Statement.{statement}
 use Rattle.book.proofs.words.says.Tie as tie
 
 abbrev Inv-loop : tie.InvT-loop
-Inv-loop words q k₀ k = (k ≤ 51) × ((j : ℕ) → j < k → getD words j 0 ≡ questionWord q j)
+Inv-loop words q j₀ j = (j ≤ 8) × ((k : ℕ) → k < 19 + 4 * j → getD words k 0 ≡ questionWord q k)
 
 abbrev μ-loop : tie.MeasureT-loop
-μ-loop words q k₀ k = 51 - k
+μ-loop words q j₀ j = 8 - j
 
-loop-holds : tie.Need-loop-holds Inv-loop μ-loop
-loop-holds c = (omega arith, below-none _)
-
-mul-if1 : tie.Need-mul-if1 Inv-loop μ-loop
-mul-if1 c = omega arith
-
-shared-slice-read-if1 : tie.Need-shared-slice-read-if1 Inv-loop μ-loop
-shared-slice-read-if1 c = omega arith
-
-question-word-requires : tie.Need-question-word-requires Inv-loop μ-loop
-question-word-requires c κs = search needs
+head-says-requires : tie.Need-head-says-requires Inv-loop μ-loop
+head-says-requires c κs = search needs
 
 returns : tie.Need-returns Inv-loop μ-loop
-returns c = let l = c .before .before .before .before in
-    let a = l .before .before .args in
-    let t = c .before .before .before .loop-test .taken in
-    sym (not-same _ _ (λ e. c .if1 .taken (ap (λ ws. getD ws (l .loop .k) 0) e ∙ (word-of (a .q) (l .loop .k) t ∙ sym (c .before .question-word .ensures)))))
+returns c =
+    let a = c .before .before .before .args in
+    sym (head-differs (a .words .now) (a .q) (fails (c .before .head-says .result) (c .if1 .taken) (c .before .head-says .ensures)))
 
-add-k : tie.Need-add-k Inv-loop μ-loop
-add-k c = omega arith
+loop-holds : tie.Need-loop-holds Inv-loop μ-loop
+loop-holds c =
+    let s = c .before .before .before in
+    (omega arith, λ k l. head-said (s .args .words .now) (s .args .q) (holds (c .before .head-says .result) (c .if1 .left) (c .before .head-says .ensures)) k (omega arith))
+
+leg-at-requires : tie.Need-leg-at-requires Inv-loop μ-loop
+leg-at-requires c κs = search needs
+
+leg-says-requires : tie.Need-leg-says-requires Inv-loop μ-loop
+leg-says-requires c κs = search needs
+
+returns-2 : tie.Need-returns-2 Inv-loop μ-loop
+returns-2 c =
+    let r = c .before in
+    let l = r .before .before .before in
+    let a = l .before .before .before .before .args in
+    sym
+    (leg-differs (a .words .now) (a .q) (l .loop .j) (r .before .before .loop-test .taken) (r .before .leg-at .ensures)
+    (fails (r .leg-says .result) (c .if2 .taken) (r .leg-says .ensures)))
+
+add-j : tie.Need-add-j Inv-loop μ-loop
+add-j c = omega arith
 
 loop-less : tie.Need-loop-less Inv-loop μ-loop
 loop-less c = omega arith
 
 loop-again : tie.Need-loop-again Inv-loop μ-loop
-loop-again c = let l = c .before .before .before .before in
-    (omega arith, below-more _ _ (l .loop .inv .1) (c .if1 .left ∙ c .before .question-word .ensures))
+loop-again c =
+    let r = c .before in
+    let l = r .before .before .before in
+    let a = l .before .before .before .before .args in (
+      omega arith,
+      leg-follows (a .words .now) (a .q) (l .loop .j) (r .before .before .loop-test .taken) (r .before .leg-at .ensures)
+          (holds (r .leg-says .result) (c .if2 .left) (r .leg-says .ensures)) (l .loop .inv .1),
+    )
 
-returns-2 : tie.Need-returns-2 Inv-loop μ-loop
-returns-2 c = let l = c .before in
-    let a = l .before .before .args in
-    let w = words-length (a .q) in
-    sym (is-same _ _ (ext-getD 0 _ _ (omega arith) (λ k h. l .loop .inv .1 k (omega arith) ∙ sym (word-of (a .q) k (omega arith)))))
+returns-3 : tie.Need-returns-3 Inv-loop μ-loop
+returns-3 c =
+    let l = c .before in
+    let s = l .before .before .before .before in
+    sym (all-said (s .args .words .now) (s .args .q) (s .pre) (λ k h. l .loop .inv .1 k (omega arith)))
 
 pub says-spec : {M : Type 1} → statement M
 says-spec =
@@ -59,12 +73,13 @@ says-spec =
     (tie.spec
     Inv-loop
     μ-loop
-    loop-holds
-    mul-if1
-    shared-slice-read-if1
-    question-word-requires
+    head-says-requires
     returns
-    add-k
+    loop-holds
+    leg-at-requires
+    leg-says-requires
+    returns-2
+    add-j
     loop-less
     loop-again
-    returns-2)
+    returns-3)
