@@ -16,8 +16,9 @@ pub fn find(book: &[u32], n: usize, till: u32, sequence: u32) -> usize
     let mut i = 0;
     let mut at = 1;
     while i < n {
-        if book[at] == till {
-            if book[at + SEQUENCE] == sequence {
+        // the sequence first: it is the one that tells the entries of a till apart
+        if book[at + SEQUENCE] == sequence {
+            if book[at] == till {
                 return i;
             }
         }

@@ -31,14 +31,14 @@ tested w t s i at e = rw (word-at w i 0 (omega arith), word-at w i 1 (omega arit
 loop-holds : tie.Need-loop-holds Inv-loop μ-loop
 loop-holds c = (omega arith, omega arith, start _)
 
+add-if1 : tie.Need-add-if1 Inv-loop μ-loop
+add-if1 c = omega arith
+
 mul-if1 : tie.Need-mul-if1 Inv-loop μ-loop
 mul-if1 c = omega arith
 
 shared-slice-read-if1 : tie.Need-shared-slice-read-if1 Inv-loop μ-loop
 shared-slice-read-if1 c = omega arith
-
-add-if2 : tie.Need-add-if2 Inv-loop μ-loop
-add-if2 c = omega arith
 
 mul-if2 : tie.Need-mul-if2 Inv-loop μ-loop
 mul-if2 c = omega arith
@@ -51,7 +51,7 @@ returns c =
     let l = c .before .before .before .before .before in
     let a = l .before .args in
     let t = c .before .before .before .before .loop-test .taken in
-    sym (hit _ (l .loop .i) (a .n) (l .loop .inv .2) (tested (a .book .now) (a .till) (a .sequence) (l .loop .i) (l .loop .at) (l .loop .inv .1) ∙ rw (eq-eqb _ _ (c .before .before .if1 .taken), eq-eqb _ _ (c .if2 .taken))) t)
+    sym (hit _ (l .loop .i) (a .n) (l .loop .inv .2) (tested (a .book .now) (a .till) (a .sequence) (l .loop .i) (l .loop .at) (l .loop .inv .1) ∙ rw (eq-eqb _ _ (c .if2 .taken), eq-eqb _ _ (c .before .before .if1 .taken))) t)
 
 add-i : tie.Need-add-i Inv-loop μ-loop
 add-i c = omega arith
@@ -68,7 +68,7 @@ loop-again c =
     let a = l .before .args in
     let e = tested (a .book .now) (a .till) (a .sequence) (l .loop .i) (l .loop .at) (l .loop .inv .1) in
     let f : sameNumber (a .till) (a .sequence) (entryAt (a .book .now) (l .loop .i)) ≡ false =
-    ⊎-elim (λ w. e ∙ rw (ne-eqb _ _ (w .2 .left), and-false)) (λ w. e ∙ rw (ne-eqb _ _ (w .left))) (c .if1 .came) in
+    ⊎-elim (λ w. e ∙ rw (ne-eqb _ _ (w .2 .left))) (λ w. e ∙ rw (ne-eqb _ _ (w .left), and-false)) (c .if1 .came) in
     (omega arith, omega arith, more _ (l .loop .i) (l .loop .inv .2) f)
 
 returns-2 : tie.Need-returns-2 Inv-loop μ-loop
@@ -84,9 +84,9 @@ find-spec =
     Inv-loop
     μ-loop
     loop-holds
+    add-if1
     mul-if1
     shared-slice-read-if1
-    add-if2
     mul-if2
     shared-slice-read-if2
     returns
