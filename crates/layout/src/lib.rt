@@ -79,8 +79,8 @@ fn named(e: rows::Entry) -> Row
     Row {
         table: e.0,
         field: e.1,
-        start: e.2,
-        length: e.3,
+        start: e.2 as usize,
+        length: e.3 as usize,
         kind: e.4,
         least: e.5,
         most: e.6,

@@ -16,15 +16,8 @@ use super::rules::ROUNDING;
 use super::rules::TEXT;
 use super::rules::TRANSFEROR;
 
-pub struct Entry(
-    pub u8,
-    pub u8,
-    pub usize,
-    pub usize,
-    pub u8,
-    pub u32,
-    pub u32,
-);
+// Its numbers are no wider than they need to be, because the table is built anew at each use.
+pub struct Entry(pub u8, pub u8, pub u16, pub u16, pub u8, pub u32, pub u32);
 
 pub const LAYOUT: [Entry; 57] = [
     Entry(CO, 1, 1, 4, TRANSFEROR, 0, 0),
