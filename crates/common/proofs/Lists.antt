@@ -5,12 +5,12 @@ use mathlib.Core.Path.{_≡_, refl, sym, _∙_, ap, ap₂}
 use mathlib.Core.Bool.{Bool, true, false, cond, _&&_, _||_, or-true, and-assoc}
 use mathlib.Core.Logic.{⊎-elim}
 use mathlib.Core.List.{List, [], _∷_, _++_}
-use native.Mathlib.Nat.{le-of-suc-le-suc, not-suc-le-zero}
+use native.Mathlib.Nat.{zero-add, le-of-suc-le-suc, not-suc-le-zero}
 use native.Mathlib.Omega.{arith}
 use native.Mathlib.Numerals.{add-one, one-add}
 use lib.Dec.{eqb, ltb, leb·suc-suc}
-use lib.ListN.{length, getD, drop, drop-of-length-le, length-append, List·getD-append}
-use lib.Seq.{drop-cons, getD-drop, getD-at}
+use lib.ListN.{length, getD, take, drop, drop-of-length-le, length-append, List·getD-append}
+use lib.Seq.{drop-cons, getD-drop, getD-at, take-nil}
 use borrow.Author.Tests.{eq-eqb, eqb-true, lt-ltb}
 use Rattle.common.specs.Least.{least}
 use Rattle.common.specs.Lists.{every, any, same, firstOf, upTo}
@@ -137,3 +137,14 @@ pub every-append : {A : Type 0} (p : A → Bool) (a b : List A) → every p (a +
 unfolding every
 every-append p [] b = refl
 every-append p (x ∷ a) b = rw (every-append p a b) (sym (and-assoc (p x) (every p a) (every p b)))
+
+-- two parts of equal lengths are the same exactly if they are in front and behind
+pub same-parts : (l n : ℕ) (a b : List ℕ) → same (take (l + n) a) (take (l + n) b) ≡ (same (take l a) (take l b) && same (take n (drop l a)) (take n (drop l b)))
+unfolding same
+same-parts zero n a b = rw zero-add
+same-parts (suc l) n [] [] = rw (take-nil (suc l + n), take-nil n)
+same-parts (suc l) n [] (y ∷ b) = let e : suc l + n ≡ suc (l + n) = omega arith in rw e
+same-parts (suc l) n (x ∷ a) [] = let e : suc l + n ≡ suc (l + n) = omega arith in rw e
+same-parts (suc l) n (x ∷ a) (y ∷ b) =
+    let e : suc l + n ≡ suc (l + n) = omega arith in
+    rw (e, same-parts l n a b) (sym (and-assoc (eqb x y) (same (take l a) (take l b)) (same (take n (drop l a)) (take n (drop l b)))))

@@ -3,6 +3,7 @@
 use Prim.Native.Nat.{ℕ}
 use mathlib.Core.Bool.{Bool, not, _&&_}
 use mathlib.Core.List.{List, [], _∷_}
+use lib.Dec.{leb}
 use Rattle.common.specs.Lists.{same}
 use Rattle.common.specs.Digits.{numberOf, valueOf, isWithin}
 use Rattle.layout.specs.Bytes.{byte-0}
@@ -17,5 +18,9 @@ unfoldable pub isTransferor : List ℕ → Bool
 isTransferor s = not (isAllRailways s) && isCompany s
 
 -- the number that questions and books give a company by
-unfoldable pub codeOf : List ℕ → ℕ
-codeOf s = valueOf (numberOf s)
+unfoldable pub companyOf : List ℕ → ℕ
+companyOf s = valueOf (numberOf s)
+
+-- "a railway 1-9999": a number that a railway may be asked by
+unfoldable pub isRailway : ℕ → Bool
+isRailway n = leb 1 n && leb n 9999

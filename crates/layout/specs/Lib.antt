@@ -1,8 +1,7 @@
 pub mod Bytes
-pub mod Tables
 pub mod Company
 pub mod Dates
 pub mod Layout
-pub mod Entries
+pub mod Fields
 pub mod Rules
-pub mod Periods
+pub mod Helpers

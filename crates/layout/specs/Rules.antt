@@ -1,18 +1,17 @@
--- What each rule kind asks of a field, and the first row of the layout that a record breaks (document 01, 'Values').
+-- What each rule kind asks of a field, and the first field that breaks its rule (document 01, 'Values').
 -- Assumes nothing.
 use Prim.Native.Nat.{ℕ, _-_}
 use mathlib.Core.List.{List, [], _∷_}
-use mathlib.Core.Bool.{Bool, false, cond, not, _&&_, _||_}
-use lib.ListN.{getD, take, drop, length}
+use mathlib.Core.Bool.{Bool, false, cond, _&&_, _||_}
 use lib.Dec.{eqb, leb}
-use Rattle.common.specs.Least.{least}
 use Rattle.common.specs.Lists.{every, byteAt}
 use Rattle.common.specs.Digits.{numberOf, valueOf, isWithin}
 use Rattle.layout.specs.Bytes.{isText, isBlank, byte-blank, byte-plus, byte-minus, byte-0, byte-N, byte-Y}
 use Rattle.layout.specs.Company.{isCompany, isTransferor}
 use Rattle.layout.specs.Dates.{isDay}
-use Rattle.layout.specs.Layout.{layout, noRow, rows, TEXT, TRANSFEROR, RAILWAY, NUMBER, NUMBER-OR-BLANK, FLAG, FLAG-OR-BLANK, MOST-PERSONS, ROUNDING, FACTOR, FIRST-DAY, LAST-DAY}
-use Rattle.layout.specs.declared.Row.{Row}
+use Rattle.layout.specs.Layout.{TEXT, TRANSFEROR, RAILWAY, NUMBER, NUMBER-OR-BLANK, FLAG, FLAG-OR-BLANK, MOST-PERSONS, ROUNDING, FACTOR, FIRST-DAY, LAST-DAY, tableAt}
+use Rattle.layout.specs.Fields.{fieldAt, bytesIn}
+use Rattle.layout.specs.declared.rows.Row.{Row}
 
 abbrev pub isFlag : ℕ → Bool
 isFlag b = eqb b byte-Y || eqb b byte-N
@@ -45,10 +44,6 @@ firstDayRule s = isDay (valueOf (numberOf s))
 unfoldable pub lastDayRule : List ℕ → List ℕ → Bool
 lastDayRule first s = firstDayRule s && leb (valueOf (numberOf first)) (valueOf (numberOf s))
 
--- the bytes of a field, whose positions count from 1
-abbrev pub fieldAt : ℕ → ℕ → List ℕ → List ℕ
-fieldAt start len body = take len (drop (start - 1) body)
-
 -- what the rule kind asks: the first of the list that has its number
 unfoldable pub ruled : ℕ → List (ℕ × Bool) → Bool
 ruled kind [] = false
@@ -58,7 +53,7 @@ ruled kind (r ∷ rs) = cond (eqb kind (r .0)) (r .1) (ruled kind rs)
 -- rounding byte before it, and the last day at the first day, which the two bytes of the version part from it.
 unfoldable pub obeysRow : Row → List ℕ → Bool
 obeysRow row body =
-    let s : List ℕ = fieldAt (row .start) (row .length) body in
+    let s : List ℕ = bytesIn row body in
     let byte : ℕ = byteAt (row .start) body in
     ruled (row .kind) (
     (TEXT, every isText s) ∷
@@ -75,10 +70,15 @@ obeysRow row body =
     (LAST-DAY, lastDayRule (fieldAt (row .start - 10) 8 body) s) ∷
     [])
 
--- row k is of the table, and the record breaks it
-abbrev pub breaks : ℕ → List ℕ → ℕ → Bool
-breaks table body k = eqb (getD layout k noRow .table) table && not (obeysRow (getD layout k noRow) body)
+-- the field of the first of some rows that a record breaks, 0 where it keeps them all
+unfoldable pub firstBroken : List Row → List ℕ → ℕ
+firstBroken [] body = 0
+firstBroken (row ∷ rs) body = cond (obeysRow row body) (firstBroken rs body) (row .field)
 
--- the first row that a record of the table breaks; `rows` where it breaks none
-unfoldable pub brokenRow : ℕ → List ℕ → ℕ
-brokenRow table body = least (breaks table body) rows
+-- "fields from left to right": the first field that breaks its rule, 0 where none does
+unfoldable pub brokenField : ℕ → List ℕ → ℕ
+brokenField t body = firstBroken (tableAt t .rows) body
+
+-- every field keeps its rule
+unfoldable pub keepsRules : ℕ → List ℕ → Bool
+keepsRules t body = every (λ row. obeysRow row body) (tableAt t .rows)

@@ -1,6 +1,6 @@
 // Company codes: four digits, of which 0000 stands for all railways.
 ghost use mathlib.Core.Path.{_≡_};
-ghost use Rattle.layout.specs.Company.{isCompany, isAllRailways, isTransferor, codeOf};
+ghost use Rattle.layout.specs.Company.{isCompany, isAllRailways, isTransferor, companyOf, isRailway};
 
 pub fn is_company(s: &[u8]) -> bool
     ensures { λ r. ⌜ r ≡ isCompany (now (s .entry)) ⌝ }
@@ -24,8 +24,18 @@ pub fn is_transferor(s: &[u8]) -> bool
 }
 
 // The number that questions and books give a company by.
-pub fn code_of(s: &[u8]) -> u32
-    ensures { λ r. ⌜ r ≡ codeOf (now (s .entry)) ⌝ }
+pub fn company_of(s: &[u8]) -> u32
+    ensures { λ r. ⌜ r ≡ companyOf (now (s .entry)) ⌝ }
 {
     common::value(common::number(s))
+}
+
+// Whether a railway may be asked for by a number.
+pub fn is_railway(railway: u32) -> bool
+    ensures { λ r. ⌜ r ≡ isRailway railway ⌝ }
+{
+    if railway < 1 {
+        return false;
+    }
+    railway <= 9999
 }

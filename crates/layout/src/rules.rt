@@ -4,29 +4,29 @@ ghost use Rattle.common.specs.Lists.{every};
 ghost use Rattle.layout.specs.Bytes.{isText, isBlank};
 ghost use Rattle.layout.specs.Rules.{isFlag, isRounding, numberOrBlank, flagOrBlank, mostPersons, factorRule, lastDayRule};
 
-pub const TEXT: u8 = 0;
+pub const TEXT: u32 = 0;
 
-pub const TRANSFEROR: u8 = 1;
+pub const TRANSFEROR: u32 = 1;
 
-pub const RAILWAY: u8 = 2;
+pub const RAILWAY: u32 = 2;
 
-pub const NUMBER: u8 = 3;
+pub const NUMBER: u32 = 3;
 
-pub const NUMBER_OR_BLANK: u8 = 4;
+pub const NUMBER_OR_BLANK: u32 = 4;
 
-pub const FLAG: u8 = 5;
+pub const FLAG: u32 = 5;
 
-pub const FLAG_OR_BLANK: u8 = 6;
+pub const FLAG_OR_BLANK: u32 = 6;
 
-pub const MOST_PERSONS: u8 = 7;
+pub const MOST_PERSONS: u32 = 7;
 
-pub const ROUNDING: u8 = 8;
+pub const ROUNDING: u32 = 8;
 
-pub const FACTOR: u8 = 9;
+pub const FACTOR: u32 = 9;
 
-pub const FIRST_DAY: u8 = 10;
+pub const FIRST_DAY: u32 = 10;
 
-pub const LAST_DAY: u8 = 11;
+pub const LAST_DAY: u32 = 11;
 
 fn text_byte(b: u8) -> bool
     ensures { λ r. ⌜ r ≡ isText b ⌝ }

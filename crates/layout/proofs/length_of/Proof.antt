@@ -1,31 +1,12 @@
--- `layout::length_of` meets its contract: each arm is the entry of its table.
+-- `layout::length_of` meets its contract: antt computes the length of each table.
 -- Assumes nothing.
-use lib.ListN.{List·getD-eq-default}
-use mathlib.Core.Path.{sym}
+use Rattle.layout.proofs.Tables.{no-table}
 use native.Mathlib.Omega.{arith}
-use Rattle.layout.specs.Tables.{lengthOf, lengths}
+use Rattle.layout.specs.Layout.{tables, tableAt, co, re, ar, me, endOf, lengthOf}
 use Rattle.layout.proofs.length_of.Statement.{statement}
 use Rattle.layout.proofs.length_of.Tie as tie
 
-returns : tie.Need-returns
-unfolding lengthOf lengths
-returns c = rw (c .match .keys1)
-
-returns-2 : tie.Need-returns-2
-unfolding lengthOf lengths
-returns-2 c = rw (c .match .keys2)
-
-returns-3 : tie.Need-returns-3
-unfolding lengthOf lengths
-returns-3 c = rw (c .match .keys3)
-
-returns-4 : tie.Need-returns-4
-unfolding lengthOf lengths
-returns-4 c = rw (c .match .keys4)
-
-returns-5 : tie.Need-returns-5
-unfolding lengthOf lengths
-returns-5 c = sym (List·getD-eq-default lengths 0 {n = c .before .args .table} (omega arith))
-
 pub length-of-spec : {M : Type 1} → statement M
-length-of-spec = tie.close (tie.spec returns returns-2 returns-3 returns-4 returns-5)
+unfolding lengthOf endOf tableAt tables co re ar me
+length-of-spec = tie.close (tie.spec (λ c. rw (c .match .keys1)) (λ c. rw (c .match .keys2)) (λ c. rw (c .match .keys3)) (λ c. rw (c .match .keys4))
+    (λ c. rw (no-table (c .before .args .table) (omega arith))))

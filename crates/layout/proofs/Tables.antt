@@ -1,0 +1,251 @@
+-- What holds of every table. Each fact is one test that antt computes over the list of the tables, and one law that turns it into the fact at a table:
+-- a further block in the layout runs the tests again and changes no law.
+-- Assumes nothing.
+use Prim.Native.Nat.{ℕ, zero, suc, _+_, _-_, _≤_, _<_}
+use mathlib.Core.Path.{_≡_, refl, sym, ap, ap₂, _∙_}
+use mathlib.Core.Bool.{Bool, true, false, cond, not, _&&_, _||_}
+use mathlib.Core.List.{List, [], _∷_, _++_, map}
+use mathlib.Core.Logic.{⊎-elim}
+use native.Mathlib.Omega.{arith}
+use native.Mathlib.Nat.{zero-add, add-zero}
+use lib.Dec.{eqb, leb, ltb}
+use lib.ListN.{length, getD, take, drop, length-map, List·getD-eq-default}
+use lib.Seq.{take-all, take-at, take-nil, drop-append-add, drop-drop}
+use borrow.Author.Tests.{not-true, not-false, eqb-true, leb-true, ltb-true, ne-eqb}
+use Rattle.common.specs.Least.{least}
+use Rattle.common.specs.Lists.{every, any, same, sum}
+use Rattle.common.proofs.Least.{before}
+use Rattle.common.proofs.Lists.{same-parts}
+use Rattle.common.proofs.Tests.{never, both-true, side}
+use Rattle.layout.specs.Layout.{CO, RE, AR, FIRST-DAY, LAST-DAY, Table, noTable, noRow, tables, tableCount, tableAt, co, re, ar, me, endOf, lengthOf, standFrom, numbers, layoutFrom, layout}
+use Rattle.layout.specs.Fields.{bytesIn, rowWith, rowOf, bytesOf, transferorOf, offerOf, railwayOf, sameKey, dayRow, hasPeriod, isFlagRow}
+use Rattle.layout.specs.Rules.{obeysRow, firstBroken, brokenField, keepsRules}
+use Rattle.layout.specs.Helpers.{asRow, firstRow, keyLength}
+use Rattle.layout.specs.declared.rows.Row.{Row}
+
+-- a test that no number below n fails holds at each
+pub computed : (p : ℕ → Bool) (n : ℕ) → least (λ k. not (p k)) n ≡ n → (k : ℕ) → k < n → p k ≡ true
+computed p n e k h = not-false (p k) (before (λ j. not (p j)) n k (omega (arith, e)))
+
+-- a number that is no table's
+pub no-table : (t : ℕ) → tableCount ≤ t → tableAt t ≡ noTable
+unfolding tableAt tables
+no-table t h = List·getD-eq-default tables noTable {n = t} h
+
+-- THE ROWS OF EACH TABLE STAND from position 1 to its length, with no gap and no overlap
+pub rows-stand : every (λ (b : Table). standFrom 1 (b .rows)) tables ≡ true
+unfolding tables co re ar me every standFrom
+rows-stand = refl
+
+-- no record is longer than a memo
+pub length-most : (t : ℕ) → lengthOf t ≤ 1231
+unfolding least lengthOf endOf tableAt tables co re ar me
+length-most t =
+    ⊎-elim (λ h. leb-true (lengthOf t) 1231 (computed (λ u. leb (lengthOf u) 1231) tableCount refl t h))
+    (λ h. rw (no-table t h) (omega arith)) (side t tableCount)
+
+-- MARKS have two bytes and differ: the first table that has the mark of t is t
+pub mark-length : (t : ℕ) → t < tableCount → length (tableAt t .mark) ≡ 2
+unfolding least tableAt tables co re ar me
+mark-length t h = eqb-true (length (tableAt t .mark)) 2 (computed (λ u. eqb (length (tableAt u .mark)) 2) tableCount refl t h)
+
+pub marks-differ : (t : ℕ) → t < tableCount → least (λ u. same (tableAt t .mark) (tableAt u .mark)) tableCount ≡ t
+unfolding least same tableAt tables co re ar me
+marks-differ t h =
+    eqb-true (least (λ u. same (tableAt t .mark) (tableAt u .mark)) tableCount) t
+    (computed (λ v. eqb (least (λ u. same (tableAt v .mark) (tableAt u .mark)) tableCount) v) tableCount refl t h)
+
+-- ALIKE: field 1 of every table, and fields 2 and 3 of every table that has a railway, stand where CO has them
+abbrev alike : ℕ → ℕ → Bool
+alike f t = eqb (rowOf t f .start) (rowOf CO f .start) && eqb (rowOf t f .length) (rowOf CO f .length)
+
+-- a table of offers: field 3, the railway, is in its key
+abbrev pub ofOffers : ℕ → Bool
+ofOffers t = any (eqb 3) (tableAt t .key)
+
+stand-alike : (f t : ℕ) (body : List ℕ) → alike f t ≡ true → bytesOf t f body ≡ bytesOf CO f body
+unfolding bytesOf
+stand-alike f t body e =
+    let d = both-true (eqb (rowOf t f .start) (rowOf CO f .start)) (eqb (rowOf t f .length) (rowOf CO f .length)) e in
+    rw (eqb-true (rowOf t f .start) (rowOf CO f .start) (d .0), eqb-true (rowOf t f .length) (rowOf CO f .length) (d .1))
+
+pub transferor-stands : (t : ℕ) (body : List ℕ) → t < tableCount → bytesOf t 1 body ≡ transferorOf body
+unfolding least rowOf rowWith tableAt tables co re ar me transferorOf
+transferor-stands t body h = stand-alike 1 t body (computed (alike 1) tableCount refl t h)
+
+if-offers : (b : Bool) {d : Bool} → b ≡ true → (not b || d) ≡ true → d ≡ true
+if-offers b e h = rw e at h
+
+named-offers : (t : ℕ) → ofOffers t ≡ true → t < tableCount
+unfolding any
+named-offers t e = ⊎-elim (λ h. h) (λ h. never (rw (no-table t h) at e) refl) (side t tableCount)
+
+module _ (t : ℕ) (body : List ℕ) (o : ofOffers t ≡ true) where
+  pub offer-stands : bytesOf t 2 body ≡ offerOf body
+  unfolding least any rowOf rowWith tableAt tables co re ar me offerOf
+  offer-stands = stand-alike 2 t body (if-offers (ofOffers t) o (computed (λ u. not (ofOffers u) || alike 2 u) tableCount refl t (named-offers t o)))
+
+  pub railway-stands : bytesOf t 3 body ≡ railwayOf body
+  unfolding least any rowOf rowWith tableAt tables co re ar me railwayOf
+  railway-stands = stand-alike 3 t body (if-offers (ofOffers t) o (computed (λ u. not (ofOffers u) || alike 3 u) tableCount refl t (named-offers t o)))
+
+-- CODES: no table but RE and AR has one
+pub no-code : (t : ℕ) → (t ≡ RE → ⊥) → (t ≡ AR → ⊥) → tableAt t .code ≡ 0
+unfolding least tableAt tables co re ar me
+no-code t n m =
+    ⊎-elim
+    (λ h. eqb-true (tableAt t .code) 0 (rw (ne-eqb t RE n, ne-eqb t AR m) at (computed (λ u. eqb u RE || (eqb u AR || eqb (tableAt u .code) 0)) tableCount refl t h)))
+    (λ h. rw (no-table t h)) (side t tableCount)
+
+-- KEYS: fields that stand one behind the other are the same exactly if their bytes are, taken together,
+abbrev lengthIn : ℕ → List ℕ → ℕ
+lengthIn t fs = sum (map (λ f. rowOf t f .length) fs)
+
+at-once : (t p : ℕ) (fs : List ℕ) (a b : List ℕ) → standFrom (p + 1) (map (rowOf t) fs) ≡ true
+    → same (take (lengthIn t fs) (drop p a)) (take (lengthIn t fs) (drop p b)) ≡ every (λ f. same (bytesOf t f a) (bytesOf t f b)) fs
+unfolding sum same every standFrom bytesOf
+at-once t p [] a b e = refl
+at-once t p (f ∷ fs) a b e =
+    let d = both-true (eqb (rowOf t f .start) (p + 1)) _ e in
+    let n = rowOf t f .length in
+    let r = both-true (ltb 0 n) (standFrom (p + 1 + n) (map (rowOf t) fs)) (d .1) in
+    let m : p + 1 + n ≡ p + n + 1 = omega arith in
+    let q : p + 1 - 1 ≡ p = omega arith in
+    same-parts n (lengthIn t fs) (drop p a) (drop p b)
+    ∙ rw (eqb-true (rowOf t f .start) (p + 1) (d .0), q, drop-drop n p a, drop-drop n p b, at-once t (p + n) fs a b (rw (← m) (r .1)))
+
+-- and the key of every table stands from position 5 on.
+key-stands : (t : ℕ) → standFrom 5 (map (rowOf t) (tableAt t .key)) ≡ true
+unfolding least standFrom rowOf rowWith tableAt tables co re ar me
+key-stands t =
+    ⊎-elim (computed (λ u. standFrom 5 (map (rowOf u) (tableAt u .key))) tableCount refl t) (λ h. rw (no-table t h)) (side t tableCount)
+
+pub key-at-once : (t : ℕ) (a b : List ℕ) → same (take (keyLength t) (drop 4 a)) (take (keyLength t) (drop 4 b)) ≡ sameKey t a b
+unfolding keyLength sameKey
+key-at-once t a b = at-once t 4 (tableAt t .key) a b (key-stands t)
+
+-- PERIODS: every table has one, in the last 18 bytes of its records
+pub record Period (t : ℕ) : Type 0 where
+  pub has : hasPeriod t ≡ true
+  pub first : dayRow FIRST-DAY t .start ≡ lengthOf t - 17
+  pub first-long : dayRow FIRST-DAY t .length ≡ 8
+  pub last : dayRow LAST-DAY t .start ≡ lengthOf t - 7
+  pub last-long : dayRow LAST-DAY t .length ≡ 8
+
+pub period : (t : ℕ) → t < tableCount → Period t
+unfolding least any hasPeriod dayRow rowWith lengthOf endOf tableAt tables co re ar me
+period t h =
+    record {
+      has = computed hasPeriod tableCount refl t h;
+      first = eqb-true _ _ (computed (λ u. eqb (dayRow FIRST-DAY u .start) (lengthOf u - 17)) tableCount refl t h);
+      first-long = eqb-true _ _ (computed (λ u. eqb (dayRow FIRST-DAY u .length) 8) tableCount refl t h);
+      last = eqb-true _ _ (computed (λ u. eqb (dayRow LAST-DAY u .start) (lengthOf u - 7)) tableCount refl t h);
+      last-long = eqb-true _ _ (computed (λ u. eqb (dayRow LAST-DAY u .length) 8) tableCount refl t h);
+    }
+
+-- THE FLAGS OF CO: field 27, and fields 31 to 38 one behind the other
+pub flags-stand : (k : ℕ) → k < 8 → (isFlagRow (rowOf CO (31 + k)) ≡ true) × (rowOf CO (31 + k) .start ≡ 120 + k)
+unfolding least rowOf rowWith tableAt tables co
+flags-stand k h = (computed (λ j. isFlagRow (rowOf CO (31 + j))) 8 refl k h, eqb-true _ _ (computed (λ j. eqb (rowOf CO (31 + j) .start) (120 + j)) 8 refl k h))
+
+pub no-flag-before : (f : ℕ) → f < 31 → (f ≡ 27 → ⊥) → isFlagRow (rowOf CO f) ≡ false
+unfolding least rowOf rowWith tableAt tables co
+no-flag-before f h n = not-true _ (rw (ne-eqb f 27 n) at (computed (λ g. eqb g 27 || not (isFlagRow (rowOf CO g))) 31 refl f h))
+
+none-beyond : (f : ℕ) → 38 < f → (rs : List Row) → every (λ (r : Row). not (isFlagRow r) || leb (r .field) 38) rs ≡ true
+    → isFlagRow (rowWith (λ r. eqb (r .field) f) rs) ≡ false
+unfolding every rowWith
+none-beyond f h [] e = refl
+none-beyond f h (r ∷ rs) e =
+    let d = both-true (not (isFlagRow r) || leb (r .field) 38) _ e in
+    go (eqb (r .field) f) refl (isFlagRow r) refl (d .0) (none-beyond f h rs (d .1))
+  where
+    go : (b : Bool) → eqb (r .field) f ≡ b → (g : Bool) → isFlagRow r ≡ g → (not g || leb (r .field) 38) ≡ true
+        → isFlagRow (rowWith (λ r. eqb (r .field) f) rs) ≡ false → isFlagRow (cond b r (rowWith (λ r. eqb (r .field) f) rs)) ≡ false
+    go true q true p k ih = absurd (omega (arith, eqb-true (r .field) f q, leb-true (r .field) 38 k))
+    go true q false p k ih = p
+    go false q g p k ih = ih
+
+pub no-flag-behind : (f : ℕ) → 38 < f → isFlagRow (rowOf CO f) ≡ false
+unfolding rowOf every tableAt tables co
+no-flag-behind f h = none-beyond f h (tableAt CO .rows) refl
+
+-- THE ROWS OF A TABLE IN THE LAYOUT stand behind those of the tables before it,
+abbrev rowCounts : List Table → ℕ
+rowCounts bs = sum (map (λ (b : Table). length (b .rows)) bs)
+
+in-turn : (u t : ℕ) (bs : List Table)
+    → take (rowCounts (take (t + 1) bs) - rowCounts (take t bs)) (drop (rowCounts (take t bs)) (layoutFrom u bs)) ≡ map (numbers (u + t)) (getD bs t noTable .rows)
+unfolding sum layoutFrom
+in-turn u t [] = rw (take-nil (t + 1), take-nil t)
+in-turn u zero (b ∷ bs) =
+    let n : length (b .rows) + 0 - 0 ≡ length (b .rows) = omega arith in
+    rw (n, add-zero u) (take-at (map (numbers u) (b .rows)) (layoutFrom (u + 1) bs) (length (b .rows)) (length-map (b .rows) (numbers u)))
+in-turn u (suc t) (b ∷ bs) =
+    let l = length (b .rows) in
+    let n = rowCounts (take t bs) in
+    let e : suc t + 1 ≡ suc (t + 1) = omega arith in
+    let m : l + rowCounts (take (t + 1) bs) - (l + n) ≡ rowCounts (take (t + 1) bs) - n = omega arith in
+    let q : u + 1 + t ≡ u + suc t = omega arith in
+    let d : drop (l + n) (map (numbers u) (b .rows) ++ layoutFrom (u + 1) bs) ≡ drop n (layoutFrom (u + 1) bs) =
+    rw (← length-map (b .rows) (numbers u)) (drop-append-add (map (numbers u) (b .rows)) (layoutFrom (u + 1) bs) n) in
+    rw (e, m, d, ← q) (in-turn (u + 1) t bs)
+
+pub all-before : (t : ℕ) → tableCount ≤ t → firstRow t ≡ 57
+unfolding firstRow sum tables co re ar me
+all-before t h = rw (take-all t tables h)
+
+pub in-layout : (t : ℕ) → t < tableCount → (firstRow t ≤ firstRow (t + 1)) × (firstRow (t + 1) ≤ 57)
+unfolding least firstRow sum tables co re ar me
+in-layout t h = (
+  leb-true _ _ (computed (λ u. leb (firstRow u) (firstRow (u + 1))) tableCount refl t h),
+  leb-true _ _ (computed (λ u. leb (firstRow (u + 1)) 57) tableCount refl t h),
+)
+
+-- so the walk over them finds the first field that breaks its rule.
+named-again : (t : ℕ) (rs : List Row) → map asRow (map (numbers t) rs) ≡ rs
+named-again t [] = refl
+named-again t (r ∷ rs) = ap (r ∷_) (named-again t rs)
+
+pub broken-in-table : (t : ℕ) (body : List ℕ)
+    → firstBroken (map asRow (take (firstRow (t + 1) - firstRow t) (drop (firstRow t) layout))) body ≡ brokenField t body
+unfolding firstRow layout brokenField tableAt
+broken-in-table t body = rw (in-turn 0 t tables, zero-add t, named-again t (getD tables t noTable .rows))
+
+-- A KEPT RECORD keeps the row of each field that its table has
+first-with : (p q : Row → Bool) (rs : List Row) → every q rs ≡ true → any p rs ≡ true → q (rowWith p rs) ≡ true
+unfolding every any rowWith
+first-with p q [] k h = never h refl
+first-with p q (r ∷ rs) k h = go (p r) (both-true (q r) (every q rs) k) (first-with p q rs) h
+  where
+    go : (b : Bool) → (q r ≡ true) × (every q rs ≡ true) → (every q rs ≡ true → any p rs ≡ true → q (rowWith p rs) ≡ true) → (b || any p rs) ≡ true
+        → q (cond b r (rowWith p rs)) ≡ true
+    go true d f h = d .0
+    go false d f h = f (d .1) h
+
+pub keeps-field : (t f : ℕ) (body : List ℕ) → keepsRules t body ≡ true → any (λ (r : Row). eqb (r .field) f) (tableAt t .rows) ≡ true
+    → obeysRow (rowOf t f) body ≡ true
+unfolding keepsRules rowOf
+keeps-field t f body k h = first-with (λ r. eqb (r .field) f) (λ r. obeysRow r body) (tableAt t .rows) k h
+
+-- and a record breaks no field, all of which have numbers above 0, exactly if it keeps every rule.
+abbrev numbered : List Row → Bool
+numbered rs = every (λ (r : Row). ltb 0 (r .field)) rs
+
+fields-numbered : (t : ℕ) → numbered (tableAt t .rows) ≡ true
+unfolding least every tableAt tables co re ar me
+fields-numbered t = ⊎-elim (computed (λ u. numbered (tableAt u .rows)) tableCount refl t) (λ h. rw (no-table t h)) (side t tableCount)
+
+unbroken : (body : List ℕ) (rs : List Row) → numbered rs ≡ true → eqb (firstBroken rs body) 0 ≡ every (λ r. obeysRow r body) rs
+unfolding firstBroken every
+unbroken body [] n = refl
+unbroken body (r ∷ rs) n = let d = both-true (ltb 0 (r .field)) (numbered rs) n in go (obeysRow r body) (d .0) (unbroken body rs (d .1))
+  where
+    go : (b : Bool) → ltb 0 (r .field) ≡ true → eqb (firstBroken rs body) 0 ≡ every (λ r. obeysRow r body) rs
+        → eqb (cond b (firstBroken rs body) (r .field)) 0 ≡ (b && every (λ r. obeysRow r body) rs)
+    go true l e = e
+    go false l e = ne-eqb (r .field) 0 (λ z. omega (arith, ltb-true 0 (r .field) l))
+
+pub unbroken-keeps : (t : ℕ) (body : List ℕ) → eqb (brokenField t body) 0 ≡ keepsRules t body
+unfolding brokenField keepsRules
+unbroken-keeps t body = unbroken body (tableAt t .rows) (fields-numbered t)

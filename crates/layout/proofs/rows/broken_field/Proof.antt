@@ -1,0 +1,45 @@
+-- `layout::rows::broken_field` meets its contract. The loop's invariant: what is left of the rows decides.
+-- Assumes nothing.
+use Prim.Native.Nat.{_+_, _≤_, _-_}
+use mathlib.Core.Path.{_≡_, refl, sym, _∙_}
+use mathlib.Core.Bool.{cond}
+use mathlib.Core.List.{map}
+use native.Mathlib.Omega.{arith}
+use lib.ListN.{length, drop}
+use borrow.Author.Needs.{needs}
+use borrow.Author.Tests.{not-true, not-false}
+use Rattle.layout.specs.Rules.{firstBroken}
+use Rattle.layout.specs.Helpers.{asRow}
+use Rattle.layout.proofs.RowLoops.{broken-step, broken-end}
+use Rattle.layout.proofs.rows.broken_field.Statement.{statement}
+use Rattle.layout.proofs.rows.broken_field.Tie as tie
+
+abbrev Inv-loop : tie.InvT-loop
+Inv-loop rows body k₀ k = (k ≤ length rows) × (firstBroken (map asRow rows) body ≡ firstBroken (map asRow (drop k rows)) body)
+
+abbrev μ-loop : tie.MeasureT-loop
+μ-loop rows body k₀ k = length rows - k
+
+-- the row that was looked at decides, and else what follows it
+turn : (c : tie.After-obeys Inv-loop μ-loop) → let l = c .before .before .before .before in
+    let body = l .before .before .args .body .now in
+    let rows = l .before .before .args .rows .now in
+    firstBroken (map asRow rows) body ≡ cond (c .obeys .result) (firstBroken (map asRow (drop (l .loop .k + 1) rows)) body) (c .before .named .result .field)
+turn c =
+    let i = c .before .before .before in
+    let l = i .before in
+    l .loop .inv .1 ∙ broken-step _ _ _ _ _ (i .loop-test .taken) (c .before .named .ensures) (c .obeys .ensures)
+
+returns : tie.Need-returns Inv-loop μ-loop
+returns c = let o = c .before .before in sym (turn o ∙ rw (not-true (o .obeys .result) (c .before .if1 .taken)))
+
+loop-again : tie.Need-loop-again Inv-loop μ-loop
+loop-again c = (omega arith, turn (c .before) ∙ rw (not-false (c .before .obeys .result) (c .if1 .left)))
+
+returns-2 : tie.Need-returns-2 Inv-loop μ-loop
+returns-2 c = sym (c .before .loop .inv .1 ∙ broken-end _ _ _ (c .loop-test .left))
+
+pub broken-field-spec : {M : Type 1} → statement M
+broken-field-spec =
+    tie.close (tie.spec Inv-loop μ-loop (λ c. (omega arith, refl)) (λ c. search needs) (λ c. search needs) (λ c κs. search needs) (λ c κs. search needs) (λ c. search needs)
+    returns (λ c. search needs) (λ c. search needs) loop-again returns-2)

@@ -1,0 +1,21 @@
+-- What the code's helpers answer. Nothing here has to be believed: no promise and no answer of a call is stated with it.
+-- Assumes nothing.
+use Prim.Native.Nat.{ℕ, _+_}
+use mathlib.Core.List.{List, [], _∷_, map}
+use lib.ListN.{length, getD, take}
+use Rattle.common.specs.Lists.{sum}
+use Rattle.layout.specs.Layout.{Table, tables, tableAt}
+use Rattle.layout.specs.Fields.{rowOf}
+use Rattle.layout.specs.declared.rows.Row.{Row}
+
+-- a row of the code's table, its parts by name
+abbrev pub asRow : List ℕ → Row
+asRow e = record { field = getD e 1 0; start = getD e 2 0; length = getD e 3 0; kind = getD e 4 0; least = getD e 5 0; most = getD e 6 0 }
+
+-- where the rows of a table start in the layout: behind those of the tables before it
+unfoldable pub firstRow : ℕ → ℕ
+firstRow t = sum (map (λ (b : Table). length (b .rows)) (take t tables))
+
+-- how many bytes the fields of a table's key have together
+unfoldable pub keyLength : ℕ → ℕ
+keyLength t = sum (map (λ f. rowOf t f .length) (tableAt t .key))

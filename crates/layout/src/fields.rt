@@ -1,0 +1,156 @@
+// Readers of a record's fields. Each says what it reads; the positions are those of the table of rows.
+ghost use mathlib.Core.Path.{_≡_};
+ghost use Rattle.common.specs.Digits.{numberOf, valueOf};
+ghost use Rattle.layout.specs.Layout.{CO as inCO, AR as inAR};
+ghost use Rattle.layout.specs.Fields.{fieldAt, numberIn, isYes, transferorOf, offerOf, railwayOf, codeOf, codeFits, sameKey, holdsDay, grantIn};
+ghost use Rattle.layout.specs.Helpers.{keyLength};
+use super::AR;
+use super::CO;
+use super::ME;
+use super::RE;
+
+// The bytes from a position on, which counts from 1.
+pub fn field(body: &[u8], start: usize, length: usize) -> &[u8]
+    ensures { λ r. ⌜ now r ≡ fieldAt start length (now (body .entry)) ⌝ }
+{
+    common::part(body, common::less(start, 1), length)
+}
+
+// The number there, 0 where there is none.
+fn number_at(body: &[u8], start: usize, length: usize) -> u32
+    ensures { λ r. ⌜ r ≡ valueOf (numberOf (fieldAt start length (now (body .entry)))) ⌝ }
+{
+    common::value(common::number(field(body, start, length)))
+}
+
+// Field 1 of every table, and fields 2 and 3 of every table of offers.
+pub fn transferor(body: &[u8]) -> &[u8]
+    ensures { λ r. ⌜ now r ≡ transferorOf (now (body .entry)) ⌝ }
+{
+    field(body, 1, 4)
+}
+
+pub fn offer(body: &[u8]) -> &[u8]
+    ensures { λ r. ⌜ now r ≡ offerOf (now (body .entry)) ⌝ }
+{
+    field(body, 5, 5)
+}
+
+pub fn railway(body: &[u8]) -> &[u8]
+    ensures { λ r. ⌜ now r ≡ railwayOf (now (body .entry)) ⌝ }
+{
+    field(body, 10, 4)
+}
+
+// The code of an RE or an AR, nothing for a table that has none.
+pub fn code(table: u32, body: &[u8]) -> &[u8]
+    ensures { λ r. ⌜ now r ≡ codeOf table (now (body .entry)) ⌝ }
+{
+    match table {
+        RE => field(body, 5, 3),
+        AR => field(body, 14, 3),
+        _ => field(body, 0, 0),
+    }
+}
+
+// Whether a record has a code, if its table has one.
+pub fn code_fits(table: u32, code: u32, body: &[u8]) -> bool
+    ensures { λ r. ⌜ r ≡ codeFits table code (now (body .entry)) ⌝ }
+{
+    match table {
+        RE => number_at(body, 5, 3) == code,
+        AR => number_at(body, 14, 3) == code,
+        _ => true,
+    }
+}
+
+// How many bytes a table's key has, 0 for no table. A `match`, as `length_of`: every pair asks for it.
+fn key_length(table: u32) -> usize
+    ensures { λ r. ⌜ r ≡ keyLength table ⌝ }
+{
+    match table {
+        CO => 9,
+        RE => 3,
+        AR => 12,
+        ME => 9,
+        _ => 0,
+    }
+}
+
+// Whether two records of a table have the same key. Its fields stand one behind the other, so that they are compared at once.
+pub fn same_key<'a>(table: u32, a: &'a [u8], b: &'a [u8]) -> bool
+    ensures { λ r. ⌜ r ≡ sameKey table (now (a .entry)) (now (b .entry)) ⌝ }
+{
+    let n = key_length(table);
+    common::same_bytes(field(a, 5, n), field(b, 5, n))
+}
+
+// Whether a day lies in the period of a record: its last 18 bytes are the first day, the version and the last day.
+pub fn holds_day(table: u32, body: &[u8], day: u32) -> bool
+    ensures { λ r. ⌜ r ≡ holdsDay table (now (body .entry)) day ⌝ }
+{
+    if super::TABLES <= table {
+        return false;
+    }
+    let length = super::length_of(table);
+    if day < number_at(body, common::less(length, 17), 8) {
+        return false;
+    }
+    day <= number_at(body, common::less(length, 7), 8)
+}
+
+// Whether a field of a CO is a flag that says Y.
+pub fn is_yes(co: &[u8], field: u32) -> bool
+    ensures { λ r. ⌜ r ≡ isYes inCO field (now (co .entry)) ⌝ }
+{
+    if field == 27 {
+        return common::byte_at(co, 114) == b'Y';
+    }
+    if field < 31 {
+        return false;
+    }
+    if 38 < field {
+        return false;
+    }
+    common::byte_at(co, 120 + (field - 31) as usize) == b'Y'
+}
+
+// The fewest and the most persons of a CO, 0 where the field is blank.
+pub fn least_persons(co: &[u8]) -> u32
+    ensures { λ r. ⌜ r ≡ numberIn inCO 28 (now (co .entry)) ⌝ }
+{
+    number_at(co, 115, 2)
+}
+
+pub fn most_persons(co: &[u8]) -> u32
+    ensures { λ r. ⌜ r ≡ numberIn inCO 29 (now (co .entry)) ⌝ }
+{
+    number_at(co, 117, 2)
+}
+
+// What a record grants: the discount in thousandths of a percent, the rounding byte and the factor.
+pub struct Grant {
+    pub discount: u32,
+    pub mode: u8,
+    pub factor: u32,
+}
+
+pub fn conditions_grant(co: &[u8]) -> Grant
+    ensures { λ r. ⌜ r ≡ grantIn inCO 39 40 41 (now (co .entry)) ⌝ }
+{
+    Grant {
+        discount: number_at(co, 128, 6),
+        mode: common::byte_at(co, 134),
+        factor: number_at(co, 135, 3),
+    }
+}
+
+pub fn card_grant(ar: &[u8]) -> Grant
+    ensures { λ r. ⌜ r ≡ grantIn inAR 5 9 10 (now (ar .entry)) ⌝ }
+{
+    Grant {
+        discount: number_at(ar, 17, 6),
+        mode: common::byte_at(ar, 28),
+        factor: number_at(ar, 29, 3),
+    }
+}
