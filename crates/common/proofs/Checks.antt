@@ -23,6 +23,9 @@ module _ {A : Type 0} (refused : Refusal → A) where
   by-finding clean a e = inl (refl, e)
   by-finding (fault r) a e = inr (r, refl, e)
 
+  pub as-found : {f : Finding} {r x : Refusal} (a : A) → f ≡ fault r → x ≡ r → refused x ≡ unless refused f a
+  as-found a e q = ap refused q ∙ sym (rw e)
+
 -- what was found first, or else what is found then
 abbrev pub orElse : Finding → Finding → Finding
 orElse f rest = unless fault f rest
