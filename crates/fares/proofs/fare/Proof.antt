@@ -25,7 +25,7 @@ returns : tie.Need-returns
 returns c =
     let k = c .before in
     let v = k .before .before .before in
-    c .refused .ensures ∙ sym (verdict-first _ _ _ _ _ (sym (v .verdict .ensures) ∙ k .before .judged .given .1))
+    c .refused .ensures ∙ sym (verdict-first _ _ _ (sym (v .verdict .ensures) ∙ k .before .judged .given .1))
 
 returns-2 : tie.Need-returns-2
 returns-2 c =

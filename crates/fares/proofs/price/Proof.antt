@@ -13,7 +13,7 @@ use lib.Seq.{take-all}
 use borrow.Author.Needs.{needs}
 use borrow.Author.Tests.{lt-ltb, le-ltb}
 use Rattle.common.specs.Lists.{sum}
-use Rattle.common.specs.Checks.{clean, fault, firstFault}
+use Rattle.common.specs.Checks.{refuse, clean, fault, firstFault}
 use Rattle.common.proofs.Tests.{fails, holds}
 use Rattle.common.proofs.Lists.{first-length, first-at}
 use Rattle.common.proofs.Sums.{sum-padded, sum-next, fill-next}
@@ -26,7 +26,7 @@ use Rattle.common.proofs.Checks.{orElse}
 use Rattle.fares.specs.declared.Pricing.the-variants.{Priced}
 use Rattle.fares.specs.declared.Question.{Question}
 use Rattle.fares.specs.declared.Leg.{Leg}
-use Rattle.fares.proofs.FareLaws.{Asked, asked, is-refused, is-part, limits-fail, left, left-start, left-step, left-end, by-leg, all-well, part-small, sum-of-parts}
+use Rattle.fares.proofs.FareLaws.{Asked, asked, is-refused, is-part, limits-fail, left, left-start, left-step, left-end, no-fare, all-well, part-small, sum-of-parts}
 use Rattle.fares.proofs.price.Statement.{statement}
 use Rattle.fares.proofs.price.Tie as tie
 
@@ -106,7 +106,7 @@ all-sum c =
     l .loop .inv .2 ∙ (ap (λ L. sum (map (partOf (records l) (asking l)) L)) (passed c) ∙ sym (sum-padded (map (partOf (records l) (asking l)) (legsOf (asking l))) (8 - asking l .count)))
 
 found : (c : tie.After-loop Inv-loop μ-loop) → let l = c .before in
-    firstFault (priceChecks (records l) (asking l)) ≡ cond (ltb mostFare (sum (partsOf (records l) (asking l)))) (fault 16 0 0) clean
+    firstFault (priceChecks (records l) (asking l)) ≡ cond (ltb mostFare (sum (partsOf (records l) (asking l)))) (fault (refuse 16 0 0)) clean
 found c =
     let l = c .before in
     l .loop .inv .3 ∙ left-end (records l) (asking l) (l .loop .k) (omega (arith, as-many l, c .loop-test .left))
@@ -118,7 +118,9 @@ refused-requires : tie.Need-refused-requires Inv-loop μ-loop
 refused-requires c κs = search needs
 
 returns : tie.Need-returns Inv-loop μ-loop
-returns c = c .refused .ensures ∙ sym (limits-fail _ _ (fails (c .before .before .in-limits .result) (c .before .if1 .taken) (c .before .before .in-limits .ensures)))
+returns c =
+    let d = c .before .before in
+    c .refused .ensures ∙ no-fare _ _ (limits-fail _ _ (fails (d .before .in-limits .result) (d .if1 .taken) (d .before .in-limits .ensures))) (c .before .refuse .ensures)
 
 cast-count : tie.Need-cast-count Inv-loop μ-loop
 cast-count c = search needs
@@ -154,8 +156,8 @@ returns-2 c =
     let l = t .before in
     let R = records l in
     let q = asking l in
-    let f = is-refused (firstFault (legChecks R q (l .loop .k) (leg-of l))) (partOf R q (leg-of l)) _ _ _ (sym (told (k .before .before .before)) ∙ k .before .answer .given .1) in
-    c .refused2 .ensures ∙ sym (by-leg R q _ _ _ (l .loop .inv .3 ∙ (left-step R q (l .loop .k) (below t) ∙ ap (λ x. orElse x (left R q (l .loop .k + 1))) f)))
+    let f = is-refused (firstFault (legChecks R q (l .loop .k) (leg-of l))) (partOf R q (leg-of l)) _ (sym (told (k .before .before .before)) ∙ k .before .answer .given .1) in
+    c .refused2 .ensures ∙ no-fare R q (l .loop .inv .3 ∙ (left-step R q (l .loop .k) (below t) ∙ ap (λ x. orElse x (left R q (l .loop .k + 1))) f)) refl
 
 enum-known-answer-2 : tie.Need-enum-known-answer-2 Inv-loop μ-loop
 enum-known-answer-2 c = search needs
@@ -210,9 +212,11 @@ refused-requires-3 c κs = search needs
 
 returns-3 : tie.Need-returns-3 Inv-loop μ-loop
 returns-3 c =
-    let e = c .before .before in
+    let d = c .before .before in
+    let e = d .before in
     let l = e .before in
-    c .refused3 .ensures ∙ sym (by-leg (records l) (asking l) 16 0 0 (found e ∙ rw (lt-ltb mostFare (sum (partsOf (records l) (asking l))) (omega (arith, all-sum e, c .before .if2 .taken)))))
+    c .refused3 .ensures
+    ∙ no-fare (records l) (asking l) (found e ∙ rw (lt-ltb mostFare (sum (partsOf (records l) (asking l))) (omega (arith, all-sum e, d .if2 .taken)))) (c .before .refuse2 .ensures)
 
 returns-4 : tie.Need-returns-4 Inv-loop μ-loop
 returns-4 c =
@@ -228,6 +232,7 @@ price-spec =
     Inv-loop
     μ-loop
     in-limits-requires
+    (λ c κs. search needs)
     refused-requires
     returns
     cast-count
@@ -246,6 +251,7 @@ price-spec =
     add-k
     loop-less
     loop-again
+    (λ c κs. search needs)
     refused-requires-3
     returns-3
     returns-4)

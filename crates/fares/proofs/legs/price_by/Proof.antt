@@ -1,7 +1,7 @@
 -- `fares::legs::price_by` meets its contract.
 -- Assumes nothing.
 use Prim.Native.Nat.{_≤_, _*_}
-use mathlib.Core.Path.{_≡_, ap}
+use mathlib.Core.Path.{_≡_, _∙_, ap}
 use native.Mathlib.Omega.{arith}
 use borrow.Author.Tests.{lt-ltb, le-ltb}
 use Rattle.common.specs.Checks.{firstFault}
@@ -9,7 +9,7 @@ use Rattle.common.proofs.Tests.{fails, holds}
 use Rattle.bundle.specs.Records.{recordsOf}
 use Rattle.fares.specs.Reductions.{partBound}
 use Rattle.fares.specs.Legs.{answerBy, partBy}
-use Rattle.fares.specs.declared.legs.Priced.the-variants.{Part}
+use Rattle.fares.specs.declared.legs.Priced.the-variants.{Part, Refused}
 use Rattle.fares.proofs.StepLaws.{factor-small, step-small}
 use Rattle.fares.proofs.LegLaws.{leg-small, part-by}
 use borrow.Author.Needs.{needs}
@@ -37,7 +37,9 @@ persons-fit-requires c κs = search needs
 
 returns : tie.Need-returns
 unfolding answerBy firstFault
-returns c = rw (fails (c .before .persons-fit .result) (c .if1 .taken) (c .before .persons-fit .ensures))
+returns c =
+    let d = c .before in
+    ap Refused (c .refuse .ensures) ∙ rw (fails (d .before .persons-fit .result) (d .if1 .taken) (d .before .persons-fit .ensures))
 
 unread-flag-requires : tie.Need-unread-flag-requires
 unread-flag-requires c κs = search needs
@@ -48,9 +50,11 @@ flag-at-requires c κs = search needs
 returns-2 : tie.Need-returns-2
 unfolding answerBy firstFault
 returns-2 c =
-    let u = c .before .before in
+    let f = c .before in
+    let u = f .before .before in
     let e = u .before in
-    rw (holds (e .before .persons-fit .result) (e .if1 .left) (e .before .persons-fit .ensures), ← u .unread-flag .ensures, lt-ltb _ _ (c .before .if2 .taken), ← c .flag-at .ensures)
+    ap Refused (c .refuse2 .ensures)
+    ∙ rw (holds (e .before .persons-fit .result) (e .if1 .left) (e .before .persons-fit .ensures), ← u .unread-flag .ensures, lt-ltb _ _ (f .before .if2 .taken), ← f .flag-at .ensures)
 
 cast-reduce : tie.Need-cast-reduce
 cast-reduce c = search needs
@@ -68,14 +72,14 @@ after-card-requires c κs =
     let f : r .result .factor ≤ 999 = rw (r .ensures) (factor-small 128 134 135 (a .co .now)) in
     omega (arith, c .reduce .ensures, step-small (r .result) f (a .leg .fare), c .before .before .before .before .before .before .before .before .before .pre)
 
-cast-t13 : tie.Need-cast-t13
-cast-t13 c = search needs
+cast-t15 : tie.Need-cast-t15
+cast-t15 c = search needs
 
-mul-t15 : tie.Need-mul-t15
-mul-t15 c = omega (arith, part c, small c)
+mul-t17 : tie.Need-mul-t17
+mul-t17 c = omega (arith, part c, small c)
 
-cast-t16 : tie.Need-cast-t16
-cast-t16 c = omega (arith, part c, small c)
+cast-t18 : tie.Need-cast-t18
+cast-t18 c = omega (arith, part c, small c)
 
 returns-3 : tie.Need-returns-3
 unfolding answerBy firstFault
@@ -90,15 +94,17 @@ price-by-spec =
     tie.close
     (tie.spec
     persons-fit-requires
+    (λ c κs. search needs)
     returns
     unread-flag-requires
     flag-at-requires
+    (λ c κs. search needs)
     returns-2
     cast-reduce
     reduction-at-requires
     reduce-requires
     after-card-requires
-    cast-t13
-    mul-t15
-    cast-t16
+    cast-t15
+    mul-t17
+    cast-t18
     returns-3)

@@ -2,10 +2,12 @@
 -- Assumes nothing.
 use mathlib.Core.Path.{sym, _∙_, ap}
 use Rattle.fares.proofs.LegLaws.{no-conditions, off-day, by-conditions}
+use Rattle.common.proofs.Checks.{as-found}
 use Rattle.bundle.specs.Records.{recordsOf}
 use Rattle.bundle.proofs.ChoiceLaws.{chosen-at, is-nothing, is-off-day}
 use Rattle.layout.specs.Tables.{CO}
 use Rattle.fares.specs.Legs.{conditionsFor, answerBy}
+use Rattle.fares.specs.declared.legs.Priced.the-variants.{Refused}
 use borrow.Author.Needs.{needs}
 use Rattle.fares.proofs.legs.price_leg.Statement.{statement}
 use Rattle.fares.proofs.legs.price_leg.Tie as tie
@@ -30,17 +32,19 @@ price-by-requires c κs = search needs
 
 returns : tie.Need-returns
 returns c =
-    let h = c .before .before in
+    let h = c .before .before .before in
     let a = h .before .before .args in
     let R = recordsOf (a .bundle .now) in
-    sym (no-conditions R (a .q) (a .k) (a .leg) (is-nothing (a .bundle .now) (conditionsFor R (a .q) (a .leg)) (sym (h .choose .ensures) ∙ c .enum-told .given .1)))
+    let n = is-nothing (a .bundle .now) (conditionsFor R (a .q) (a .leg)) (sym (h .choose .ensures) ∙ c .before .enum-told .given .1) in
+    as-found Refused _ (no-conditions R (a .q) (a .k) (a .leg) n) (c .refuse .ensures)
 
 returns-2 : tie.Need-returns-2
 returns-2 c =
-    let h = c .before .before in
+    let h = c .before .before .before in
     let a = h .before .before .args in
     let R = recordsOf (a .bundle .now) in
-    sym (off-day R (a .q) (a .k) (a .leg) (is-off-day (a .bundle .now) (conditionsFor R (a .q) (a .leg)) (sym (h .choose .ensures) ∙ c .enum-told2 .given .1)))
+    let n = is-off-day (a .bundle .now) (conditionsFor R (a .q) (a .leg)) (sym (h .choose .ensures) ∙ c .before .enum-told2 .given .1) in
+    as-found Refused _ (off-day R (a .q) (a .k) (a .leg) n) (c .refuse2 .ensures)
 
 returns-3 : tie.Need-returns-3
 returns-3 c =
@@ -58,7 +62,9 @@ price-leg-spec =
     (tie.spec
     choose-requires
     enum-told
+    (λ c κs. search needs)
     enum-told-2
+    (λ c κs. search needs)
     enum-known-chosen
     body-at-requires
     price-by-requires
