@@ -111,19 +111,10 @@ found c =
     let l = c .before in
     l .loop .inv .3 ∙ left-end (records l) (asking l) (l .loop .k) (omega (arith, as-many l, c .loop-test .left))
 
-in-limits-requires : tie.Need-in-limits-requires Inv-loop μ-loop
-in-limits-requires c κs = search needs
-
-refused-requires : tie.Need-refused-requires Inv-loop μ-loop
-refused-requires c κs = search needs
-
 returns : tie.Need-returns Inv-loop μ-loop
 returns c =
     let d = c .before .before in
     c .refused .ensures ∙ no-fare _ _ (limits-fail _ _ (fails (d .before .in-limits .result) (d .if1 .taken) (d .before .in-limits .ensures))) (c .before .refuse .ensures)
-
-cast-count : tie.Need-cast-count Inv-loop μ-loop
-cast-count c = search needs
 
 loop-holds : tie.Need-loop-holds Inv-loop μ-loop
 unfolding sum
@@ -131,23 +122,11 @@ loop-holds c =
     let a = c .before .before .before .before .before .args in
     (omega arith, refl, refl, left-start (recordsOf (a .bundle .now)) (a .q) (limits (c .before .before)))
 
-mul-leg : tie.Need-mul-leg Inv-loop μ-loop
-mul-leg c = omega (arith, known (c .before) .few)
-
-array-copy-out-leg : tie.Need-array-copy-out-leg Inv-loop μ-loop
-array-copy-out-leg c = omega (arith, known (c .before) .few)
-
 price-leg-requires : tie.Need-price-leg-requires Inv-loop μ-loop
 price-leg-requires c κs =
     let l = c .before .before in
     let f : getD (asking l .legs) (l .loop .k) noLeg .fare ≤ 999999 = rw (same-leg (c .before)) (known l .fares (l .loop .k) (below (c .before))) in
     (f, known l .persons)
-
-enum-known-answer : tie.Need-enum-known-answer Inv-loop μ-loop
-enum-known-answer c = search needs
-
-refused-requires-2 : tie.Need-refused-requires-2 Inv-loop μ-loop
-refused-requires-2 c κs = search needs
 
 returns-2 : tie.Need-returns-2 Inv-loop μ-loop
 returns-2 c =
@@ -158,18 +137,6 @@ returns-2 c =
     let q = asking l in
     let f = is-refused (firstFault (legChecks R q (l .loop .k) (leg-of l))) (partOf R q (leg-of l)) _ (sym (told (k .before .before .before)) ∙ k .before .answer .given .1) in
     c .refused2 .ensures ∙ no-fare R q (l .loop .inv .3 ∙ (left-step R q (l .loop .k) (below t) ∙ ap (λ x. orElse x (left R q (l .loop .k + 1))) f)) refl
-
-enum-known-answer-2 : tie.Need-enum-known-answer-2 Inv-loop μ-loop
-enum-known-answer-2 c = search needs
-
-mul-parts : tie.Need-mul-parts Inv-loop μ-loop
-mul-parts c = omega (arith, known (c .before .before .before .before .before .before) .few)
-
-array-write-parts : tie.Need-array-write-parts Inv-loop μ-loop
-array-write-parts c = omega (arith, known (c .before .before .before .before .before .before) .few)
-
-cast-fare : tie.Need-cast-fare Inv-loop μ-loop
-cast-fare c = search needs
 
 add-fare : tie.Need-add-fare Inv-loop μ-loop
 add-fare c =
@@ -187,12 +154,6 @@ add-fare c =
       mul-le-mul-right partBound k,
     )
 
-add-k : tie.Need-add-k Inv-loop μ-loop
-add-k c = omega arith
-
-loop-less : tie.Need-loop-less Inv-loop μ-loop
-loop-less c = omega arith
-
 loop-again : tie.Need-loop-again Inv-loop μ-loop
 loop-again c =
     let t = c .before .before .before .before .before in
@@ -206,9 +167,6 @@ loop-again c =
       omega (arith, l .loop .inv .2, d .1, sum-next (partOf R q) (legsOf q) (l .loop .k) noLeg (below t)),
       l .loop .inv .3 ∙ (left-step R q (l .loop .k) (below t) ∙ rw (d .0)),
     )
-
-refused-requires-3 : tie.Need-refused-requires-3 Inv-loop μ-loop
-refused-requires-3 c κs = search needs
 
 returns-3 : tie.Need-returns-3 Inv-loop μ-loop
 returns-3 c =
@@ -229,29 +187,8 @@ pub price-spec : {M : Type 1} → statement M
 price-spec =
     tie.close
     (tie.spec
-    Inv-loop
-    μ-loop
-    in-limits-requires
-    (λ c κs. search needs)
-    refused-requires
-    returns
-    cast-count
-    loop-holds
-    mul-leg
-    array-copy-out-leg
-    price-leg-requires
-    enum-known-answer
-    refused-requires-2
-    returns-2
-    enum-known-answer-2
-    mul-parts
-    array-write-parts
-    cast-fare
-    add-fare
-    add-k
-    loop-less
-    loop-again
-    (λ c κs. search needs)
-    refused-requires-3
-    returns-3
-    returns-4)
+    Inv-loop μ-loop (λ c κs. search needs) (λ c κs. search needs) (λ c κs. search needs) returns (λ c. search needs) loop-holds
+    (λ c. omega (arith, known (c .before) .few)) (λ c. omega (arith, known (c .before) .few)) price-leg-requires (λ c. search needs)
+    (λ c κs. search needs) returns-2 (λ c. search needs) (λ c. omega (arith, known (c .before .before .before .before .before .before) .few))
+    (λ c. omega (arith, known (c .before .before .before .before .before .before) .few)) (λ c. search needs) add-fare (λ c. omega arith)
+    (λ c. omega arith) loop-again (λ c κs. search needs) (λ c κs. search needs) returns-3 returns-4)

@@ -32,20 +32,11 @@ small c =
     let s = entry c in
     leg-small (recordsOf (s .args .bundle .now)) (s .args .q) (s .args .leg) (s .args .co .now) (s .pre .0) (s .pre .1)
 
-persons-fit-requires : tie.Need-persons-fit-requires
-persons-fit-requires c κs = search needs
-
 returns : tie.Need-returns
 unfolding answerBy firstFault
 returns c =
     let d = c .before in
     ap Refused (c .refuse .ensures) ∙ rw (fails (d .before .persons-fit .result) (d .if1 .taken) (d .before .persons-fit .ensures))
-
-unread-flag-requires : tie.Need-unread-flag-requires
-unread-flag-requires c κs = search needs
-
-flag-at-requires : tie.Need-flag-at-requires
-flag-at-requires c κs = search needs
 
 returns-2 : tie.Need-returns-2
 unfolding answerBy firstFault
@@ -56,30 +47,12 @@ returns-2 c =
     ap Refused (c .refuse2 .ensures)
     ∙ rw (holds (e .before .persons-fit .result) (e .if1 .left) (e .before .persons-fit .ensures), ← u .unread-flag .ensures, lt-ltb _ _ (f .before .if2 .taken), ← f .flag-at .ensures)
 
-cast-reduce : tie.Need-cast-reduce
-cast-reduce c = search needs
-
-reduction-at-requires : tie.Need-reduction-at-requires
-reduction-at-requires c κs = search needs
-
-reduce-requires : tie.Need-reduce-requires
-reduce-requires c κs = (omega arith, rw (c .reduction-at .ensures) (factor-small 128 134 135 _))
-
 after-card-requires : tie.Need-after-card-requires
 after-card-requires c κs =
     let a = c .before .before .before .before .before .before .before .before .before .args in
     let r = c .before .reduction-at in
     let f : r .result .factor ≤ 999 = rw (r .ensures) (factor-small 128 134 135 (a .co .now)) in
     omega (arith, c .reduce .ensures, step-small (r .result) f (a .leg .fare), c .before .before .before .before .before .before .before .before .before .pre)
-
-cast-t15 : tie.Need-cast-t15
-cast-t15 c = search needs
-
-mul-t17 : tie.Need-mul-t17
-mul-t17 c = omega (arith, part c, small c)
-
-cast-t18 : tie.Need-cast-t18
-cast-t18 c = omega (arith, part c, small c)
 
 returns-3 : tie.Need-returns-3
 unfolding answerBy firstFault
@@ -93,18 +66,6 @@ pub price-by-spec : {M : Type 1} → statement M
 price-by-spec =
     tie.close
     (tie.spec
-    persons-fit-requires
-    (λ c κs. search needs)
-    returns
-    unread-flag-requires
-    flag-at-requires
-    (λ c κs. search needs)
-    returns-2
-    cast-reduce
-    reduction-at-requires
-    reduce-requires
-    after-card-requires
-    cast-t15
-    mul-t17
-    cast-t18
-    returns-3)
+    (λ c κs. search needs) (λ c κs. search needs) returns (λ c κs. search needs) (λ c κs. search needs) (λ c κs. search needs) returns-2
+    (λ c. search needs) (λ c κs. search needs) (λ c κs. (omega arith, rw (c .reduction-at .ensures) (factor-small 128 134 135 _)))
+    after-card-requires (λ c. search needs) (λ c. omega (arith, part c, small c)) (λ c. omega (arith, part c, small c)) returns-3)

@@ -12,24 +12,6 @@ use borrow.Author.Needs.{needs}
 use Rattle.fares.proofs.legs.price_leg.Statement.{statement}
 use Rattle.fares.proofs.legs.price_leg.Tie as tie
 
-choose-requires : tie.Need-choose-requires
-choose-requires c κs = search needs
-
-enum-told : tie.Need-enum-told
-enum-told c = search needs
-
-enum-told-2 : tie.Need-enum-told-2
-enum-told-2 c = search needs
-
-enum-known-chosen : tie.Need-enum-known-chosen
-enum-known-chosen c = search needs
-
-body-at-requires : tie.Need-body-at-requires
-body-at-requires c κs = search needs
-
-price-by-requires : tie.Need-price-by-requires
-price-by-requires c κs = search needs
-
 returns : tie.Need-returns
 returns c =
     let h = c .before .before .before in
@@ -60,14 +42,5 @@ pub price-leg-spec : {M : Type 1} → statement M
 price-leg-spec =
     tie.close
     (tie.spec
-    choose-requires
-    enum-told
-    (λ c κs. search needs)
-    enum-told-2
-    (λ c κs. search needs)
-    enum-known-chosen
-    body-at-requires
-    price-by-requires
-    returns
-    returns-2
-    returns-3)
+    (λ c κs. search needs) (λ c. search needs) (λ c κs. search needs) (λ c. search needs) (λ c κs. search needs) (λ c. search needs)
+    (λ c κs. search needs) (λ c κs. search needs) returns returns-2 returns-3)

@@ -6,18 +6,6 @@ use borrow.Author.Needs.{needs}
 use Rattle.fares.proofs.rounding.round.Statement.{statement}
 use Rattle.fares.proofs.rounding.round.Tie as tie
 
-round-up-requires : tie.Need-round-up-requires
-round-up-requires c κs = search needs
-
-round-down-requires : tie.Need-round-down-requires
-round-down-requires c κs = search needs
-
-round-near-requires : tie.Need-round-near-requires
-round-near-requires c κs = search needs
-
-round-near-requires-2 : tie.Need-round-near-requires-2
-round-near-requires-2 c κs = search needs
-
 returns : tie.Need-returns
 unfolding rounded
 returns c = rw (c .before .match .keys1) (c .round-up .ensures)
@@ -42,12 +30,4 @@ pub round-spec : {M : Type 1} → statement M
 round-spec =
     tie.close
     (tie.spec
-    round-up-requires
-    round-down-requires
-    round-near-requires
-    round-near-requires-2
-    returns
-    returns-2
-    returns-3
-    returns-4
-    returns-5)
+    (λ c κs. search needs) (λ c κs. search needs) (λ c κs. search needs) (λ c κs. search needs) returns returns-2 returns-3 returns-4 returns-5)
