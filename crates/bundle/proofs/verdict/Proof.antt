@@ -19,7 +19,6 @@ returns-3 c =
 
 pub verdict-spec : {M : Type 1} → statement M
 verdict-spec =
-    tie.close
-    (tie.spec
+    tie.close (tie.spec
     (λ c κs. search needs) (λ c. ap Refused (c .refuse .ensures) ∙ sym (too-long _ (c .before .if1 .taken))) (λ c κs. search needs)
     (λ c. search needs) (λ c. search needs) (λ c κs. search needs) returns-2 returns-3)

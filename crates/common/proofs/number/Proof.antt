@@ -17,14 +17,6 @@ Inv-loop s v₀ i₀ v i = (i ≤ length s) × (length s ≤ 9) × (v < 10 ^ i) 
 abbrev μ-loop : tie.MeasureT-loop
 μ-loop s v₀ i₀ v i = length s - i
 
-returns : tie.Need-returns Inv-loop μ-loop
-unfolding numberOf
-returns c = rw (lt-ltb _ _ (c .if1 .taken))
-
-loop-holds : tie.Need-loop-holds Inv-loop μ-loop
-unfolding numberOf
-loop-holds c = (omega arith, omega arith, omega arith, rw (le-ltb _ _ (c .if1 .left)))
-
 returns-2 : tie.Need-returns-2 Inv-loop μ-loop
 returns-2 c =
     let l = c .before .before .before in
@@ -55,8 +47,9 @@ loop-again c =
     )
 
 pub number-spec : {M : Type 1} → statement M
+unfolding numberOf
 number-spec =
-    tie.close
-    (tie.spec
-    Inv-loop μ-loop returns loop-holds (λ c. search needs) returns-2 returns-3 (λ c. search needs) mul-v add-v (λ c. search needs)
-    (λ c. search needs) loop-again (λ c. sym (c .before .loop .inv .3 ∙ digits-end _ _ _ (c .loop-test .left))))
+    tie.close (tie.spec
+    Inv-loop μ-loop (λ c. rw (lt-ltb _ _ (c .if1 .taken))) (λ c. (omega arith, omega arith, omega arith, rw (le-ltb _ _ (c .if1 .left))))
+    (λ c. search needs) returns-2 returns-3 (λ c. search needs) mul-v add-v (λ c. search needs) (λ c. search needs) loop-again
+    (λ c. sym (c .before .loop .inv .3 ∙ digits-end _ _ _ (c .loop-test .left))))

@@ -58,8 +58,7 @@ returns-4 c =
 
 pub same-bytes-spec : {M : Type 1} → statement M
 same-bytes-spec =
-    tie.close
-    (tie.spec
+    tie.close (tie.spec
     Inv-loop μ-loop Inv-loop2 μ-loop2 (λ c. sym (not-same _ _ (λ e. c .if1 .taken (ap length e)))) (λ c. (omega arith, c .if1 .left, below-none _))
     (λ c. omega arith) (λ c κs. omega arith) (λ c κs. omega arith) returns-2 (λ c. omega arith) (λ c. omega arith) loop-again
     (λ c. c .before .loop .inv) (λ c. search needs) (λ c. omega arith) (λ c. sym (not-same _ _ (λ e. c .if3 .taken (rw e)))) (λ c. search needs)

@@ -19,6 +19,5 @@ returns-2 c =
 
 pub fare-spec : {M : Type 1} → statement M
 fare-spec =
-    tie.close
-    (tie.spec
+    tie.close (tie.spec
     (λ c κs. search needs) (λ c. search needs) (λ c κs. search needs) (λ c. search needs) (λ c κs. search needs) returns returns-2)

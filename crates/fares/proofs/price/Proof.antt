@@ -185,8 +185,7 @@ returns-4 c =
 
 pub price-spec : {M : Type 1} → statement M
 price-spec =
-    tie.close
-    (tie.spec
+    tie.close (tie.spec
     Inv-loop μ-loop (λ c κs. search needs) (λ c κs. search needs) (λ c κs. search needs) returns (λ c. search needs) loop-holds
     (λ c. omega (arith, known (c .before) .few)) (λ c. omega (arith, known (c .before) .few)) price-leg-requires (λ c. search needs)
     (λ c κs. search needs) returns-2 (λ c. search needs) (λ c. omega (arith, known (c .before .before .before .before .before .before) .few))

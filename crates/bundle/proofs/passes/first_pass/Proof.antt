@@ -95,8 +95,7 @@ returns-4 c =
 
 pub first-pass-spec : {M : Type 1} → statement M
 first-pass-spec =
-    tie.close
-    (tie.spec
+    tie.close (tie.spec
     Inv-loop μ-loop (λ c. (here-start _, first-start _)) (λ c. search needs) (λ c. search needs) (λ c. search needs) (λ c κs. search needs)
     (λ c. search needs) (λ c κs. search needs) returns (λ c. search needs) (λ c κs. search needs) returns-2 (λ c. search needs)
     (λ c. omega (arith, lies c)) (λ c. omega (arith, lies c)) (λ c. fits-lent (bundle-of (place c)) (place c .loop .at) (next c) (lies c .2))

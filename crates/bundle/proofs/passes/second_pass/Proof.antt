@@ -205,8 +205,7 @@ returns-5 c =
 
 pub second-pass-spec : {M : Type 1} → statement M
 second-pass-spec =
-    tie.close
-    (tie.spec
+    tie.close (tie.spec
     Inv-loop μ-loop Inv-records μ-records (λ c κs. search needs) (λ c. (here-start _, second-start _))
     (λ c. omega (arith, c .records .inv .0 .inside)) (λ c. search needs) (λ c. search needs) (λ c κs. search needs) (λ c. search needs)
     (λ c. omega (arith, lies c)) (λ c. omega (arith, lies c)) (λ c. fits-lent (bundle-of (place c)) (place c .records .at) (next c) (lies c .2))

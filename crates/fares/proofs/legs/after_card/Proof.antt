@@ -52,7 +52,6 @@ returns-4 c =
 
 pub after-card-spec : {M : Type 1} → statement M
 after-card-spec =
-    tie.close
-    (tie.spec
+    tie.close (tie.spec
     returns (λ c κs. search needs) returns-2 (λ c κs. search needs) (λ c. search needs) returns-3 (λ c κs. search needs) (λ c κs. search needs)
     reduce-requires returns-4)

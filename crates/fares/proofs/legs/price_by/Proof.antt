@@ -64,8 +64,7 @@ returns-3 c =
 
 pub price-by-spec : {M : Type 1} → statement M
 price-by-spec =
-    tie.close
-    (tie.spec
+    tie.close (tie.spec
     (λ c κs. search needs) (λ c κs. search needs) returns (λ c κs. search needs) (λ c κs. search needs) (λ c κs. search needs) returns-2
     (λ c. search needs) (λ c κs. search needs) (λ c κs. (omega arith, rw (c .reduction-at .ensures) (factor-small 128 134 135 _)))
     after-card-requires (λ c. search needs) (λ c. omega (arith, part c, small c)) (λ c. omega (arith, part c, small c)) returns-3)

@@ -40,7 +40,6 @@ returns-3 c =
 
 pub price-leg-spec : {M : Type 1} → statement M
 price-leg-spec =
-    tie.close
-    (tie.spec
+    tie.close (tie.spec
     (λ c κs. search needs) (λ c. search needs) (λ c κs. search needs) (λ c. search needs) (λ c κs. search needs) (λ c. search needs)
     (λ c κs. search needs) (λ c κs. search needs) returns returns-2 returns-3)

@@ -42,7 +42,6 @@ returns-2 c =
 
 pub unread-flag-spec : {M : Type 1} → statement M
 unread-flag-spec =
-    tie.close
-    (tie.spec
+    tie.close (tie.spec
     Inv-loop μ-loop (λ c. (omega arith, start _)) (λ c κs. search needs) (λ c κs. search needs) returns (λ c. omega arith) (λ c. omega arith)
     loop-again returns-2)

@@ -67,7 +67,6 @@ returns-6 c =
 
 pub in-limits-spec : {M : Type 1} → statement M
 in-limits-spec =
-    tie.close
-    (tie.spec
+    tie.close (tie.spec
     (λ c κs. search needs) returns (λ c κs. search needs) returns-2 (λ c κs. search needs) returns-3 (λ c κs. search needs) returns-4
     (λ c κs. search needs) returns-5 (λ c. search needs) legs-in-limits-requires returns-6)

@@ -10,6 +10,5 @@ returns-2 c = rw (holds (c .before .before .is-railway .result) (c .before .if1 
 
 pub leg-in-limits-spec : {M : Type 1} → statement M
 leg-in-limits-spec =
-    tie.close
-    (tie.spec
+    tie.close (tie.spec
     (λ c κs. search needs) (λ c. rw (fails (c .before .is-railway .result) (c .if1 .taken) (c .before .is-railway .ensures))) returns-2)

@@ -45,7 +45,6 @@ returns-2 c =
 
 pub legs-in-limits-spec : {M : Type 1} → statement M
 legs-in-limits-spec =
-    tie.close
-    (tie.spec
+    tie.close (tie.spec
     Inv-loop μ-loop (λ c. (omega arith, refl)) (λ c. omega arith) (λ c. omega arith) (λ c κs. search needs) returns (λ c. omega arith)
     (λ c. omega arith) loop-again returns-2)

@@ -14,10 +14,8 @@ mul-round c = let k : c .kept .result ≤ 100000 = omega (arith, c .kept .ensure
 round-requires : tie.Need-round-requires
 round-requires c κs = let d = c .before in let k : d .kept .result ≤ 100000 = omega (arith, d .kept .ensures) in (omega (arith, mul-le-mul (d .before .pre .0) k), d .before .pre .1)
 
-returns : tie.Need-returns
-unfolding reduceBy
-returns c = rw (c .round .ensures, c .before .before .kept .ensures)
-
 pub reduce-spec : {M : Type 1} → statement M
+unfolding reduceBy
 reduce-spec =
-    tie.close (tie.spec (λ c κs. search needs) mul-round (λ c. search needs) round-requires returns)
+    tie.close (tie.spec
+    (λ c κs. search needs) mul-round (λ c. search needs) round-requires (λ c. rw (c .round .ensures, c .before .before .kept .ensures)))
