@@ -3,14 +3,16 @@
 use Prim.Native.Nat.{ℕ, _+_, _-_, _≤_, _<_}
 use mathlib.Core.Path.{_≡_, refl, _∙_}
 use mathlib.Core.Bool.{Bool, true, false, cond, not}
+use mathlib.Core.Logic.{⊎-elim}
 use mathlib.Core.List.{List, [], _∷_, _++_}
 use native.Mathlib.Omega.{arith}
 use lib.Dec.{ltb}
 use lib.ListN.{length, getD, drop, length-drop, drop-of-length-le}
 use borrow.Author.Tests.{lt-ltb, le-ltb}
 use Rattle.common.specs.Lists.{same}
-use Rattle.common.specs.Checks.{Finding, clean, fault, firstFault, eachFrom}
-use Rattle.common.proofs.Checks.{orElse, fault-append}
+use Rattle.common.specs.Checks.{refuse, Finding, clean, fault, firstFault, eachFrom}
+use Rattle.common.specs.declared.Refusal.{Refusal}
+use Rattle.common.proofs.Checks.{by-finding, orElse, fault-append}
 use Rattle.layout.specs.Layout.{layout, noRow, rows}
 use Rattle.layout.specs.Rules.{brokenRow}
 use Rattle.bundle.specs.Records.{Rec, noRec, stepOf, recordsOf, restOf}
@@ -34,13 +36,13 @@ module _ (s : List ℕ) (p i : ℕ) (h : Here s p i) where
   module _ (t start next : ℕ) (e : stepOf (drop p s) ≡ Whole t start next) where
     field-step : firstFrom s i
         ≡ cond (ltb (brokenRow t (bodyOf start next (drop p s))) rows)
-        (fault 4 i (getD layout (brokenRow t (bodyOf start next (drop p s))) noRow .field))
+        (fault (refuse 4 i (getD layout (brokenRow t (bodyOf start next (drop p s))) noRow .field)))
         (firstFrom s (i + 1))
     unfolding eachFrom firstFault
     field-step = rw (here-cons s p i h t start next e)
 
     pub field-fault : brokenRow t (bodyOf start next (drop p s)) < rows
-        → firstFrom s i ≡ fault 4 i (getD layout (brokenRow t (bodyOf start next (drop p s))) noRow .field)
+        → firstFrom s i ≡ fault (refuse 4 i (getD layout (brokenRow t (bodyOf start next (drop p s))) noRow .field))
     field-fault l = field-step ∙ rw (lt-ltb _ _ l)
 
     pub fields-pass : rows ≤ brokenRow t (bodyOf start next (drop p s)) → firstFrom s i ≡ firstFrom s (i + 1)
@@ -50,13 +52,13 @@ module _ (s : List ℕ) (p i : ℕ) (h : Here s p i) where
   unfolding eachFrom
   at-over o = rw (over-nil s p i h o, over-count s p i h o, over-rest s p i h o)
 
-  pub first-unknown : p < length s → stepOf (drop p s) ≡ Unknown → firstFrom s i ≡ fault 2 i 0
+  pub first-unknown : p < length s → stepOf (drop p s) ≡ Unknown → firstFrom s i ≡ fault (refuse 2 i 0)
   unfolding firstFault
   first-unknown l e =
       let b : 0 < length (drop p s) = rw length-drop (omega arith) in
       at-over (unknown e) ∙ rw (e, lt-ltb 0 (length (drop p s)) b)
 
-  pub first-short : p < length s → stepOf (drop p s) ≡ Short → firstFrom s i ≡ fault 3 i 0
+  pub first-short : p < length s → stepOf (drop p s) ≡ Short → firstFrom s i ≡ fault (refuse 3 i 0)
   unfolding firstFault
   first-short l e =
       let b : 0 < length (drop p s) = rw length-drop (omega arith) in
@@ -79,20 +81,20 @@ second-start R = refl
 
 module _ (R : List Rec) (i : ℕ) (r : Rec) (e : drop i R ≡ r ∷ drop (i + 1) R) where
   record-step : secondFrom R i
-      ≡ cond (otherTransferor R r) (fault 5 i 0)
-      (cond (ltb (earlierOf R i r) i) (fault 6 i (earlierOf R i r))
-      (cond (ltb (missingLink R r) links) (fault 7 i (getD linkRows (missingLink R r) noLink .detail)) (secondFrom R (i + 1))))
+      ≡ cond (otherTransferor R r) (fault (refuse 5 i 0))
+      (cond (ltb (earlierOf R i r) i) (fault (refuse 6 i (earlierOf R i r)))
+      (cond (ltb (missingLink R r) links) (fault (refuse 7 i (getD linkRows (missingLink R r) noLink .detail))) (secondFrom R (i + 1))))
   unfolding eachFrom firstFault
   record-step = rw e
 
-  pub other-fault : otherTransferor R r ≡ true → secondFrom R i ≡ fault 5 i 0
+  pub other-fault : otherTransferor R r ≡ true → secondFrom R i ≡ fault (refuse 5 i 0)
   other-fault o = record-step ∙ rw o
 
   module _ (o : otherTransferor R r ≡ false) where
-    pub key-fault : earlierOf R i r < i → secondFrom R i ≡ fault 6 i (earlierOf R i r)
+    pub key-fault : earlierOf R i r < i → secondFrom R i ≡ fault (refuse 6 i (earlierOf R i r))
     key-fault l = record-step ∙ rw (o, lt-ltb _ _ l)
 
-    pub link-fault : i ≤ earlierOf R i r → missingLink R r < links → secondFrom R i ≡ fault 7 i (getD linkRows (missingLink R r) noLink .detail)
+    pub link-fault : i ≤ earlierOf R i r → missingLink R r < links → secondFrom R i ≡ fault (refuse 7 i (getD linkRows (missingLink R r) noLink .detail))
     link-fault l m = record-step ∙ rw (o, le-ltb _ _ l, lt-ltb _ _ m)
 
     pub record-passes : i ≤ earlierOf R i r → links ≤ missingLink R r → secondFrom R i ≡ secondFrom R (i + 1)
@@ -109,19 +111,14 @@ unfolding otherTransferor
 compared R r e f g = rw (e, f, g)
 
 -- a judgement tells what was found
-pub is-fault : (f : Finding) (n k p d : ℕ) → judged f n ≡ Refused k p d → f ≡ fault k p d
-is-fault clean n k p d e = let z : _≡_ {A = ℕ} 0 1 = cc in absurd (omega arith)
-is-fault (fault a b c) n k p d e =
-    let x : a ≡ k = cc in
-    let y : b ≡ p = cc in
-    let z : c ≡ d = cc in
-    rw (x, y, z)
+module _ (f : Finding) (n : ℕ) where
+  pub is-fault : (r : Refusal) → judged f n ≡ Refused r → f ≡ fault r
+  is-fault r e = ⊎-elim (λ h. cc) (λ h. cc) (by-finding Refused f (Accepted n) e)
 
-pub is-clean : (f : Finding) (n m : ℕ) → judged f n ≡ Accepted m → (f ≡ clean) × (n ≡ m)
-is-clean clean n m e = (refl, cc)
-is-clean (fault a b c) n m e = let z : _≡_ {A = ℕ} 0 1 = cc in absurd (omega arith)
+  pub is-clean : (m : ℕ) → judged f n ≡ Accepted m → (f ≡ clean) × (n ≡ m)
+  is-clean m e = ⊎-elim (λ h. (h .0, cc)) (λ h. (cc, cc)) (by-finding Refused f (Accepted n) e)
 
-pub too-long : (s : List ℕ) → limit < length s → verdictOf s ≡ Refused 1 0 0
+pub too-long : (s : List ℕ) → limit < length s → verdictOf s ≡ Refused (refuse 1 0 0)
 unfolding verdictOf checks firstFault
 too-long s l = rw (lt-ltb _ _ l)
 
@@ -130,9 +127,9 @@ module _ (s : List ℕ) (l : length s ≤ limit) where
   unfolding checks firstFault
   in-order = rw (le-ltb _ _ l) (fault-append (firstPass s) (secondPass (recordsOf s)))
 
-  pub by-first : (k p d : ℕ) → judged (firstFault (firstPass s)) (length (recordsOf s)) ≡ Refused k p d → verdictOf s ≡ Refused k p d
+  pub by-first : (r : Refusal) → judged (firstFault (firstPass s)) (length (recordsOf s)) ≡ Refused r → verdictOf s ≡ Refused r
   unfolding verdictOf
-  by-first k p d e = rw (in-order, is-fault (firstFault (firstPass s)) (length (recordsOf s)) k p d e)
+  by-first r e = rw (in-order, is-fault (firstFault (firstPass s)) (length (recordsOf s)) r e)
 
   pub by-second : (m : ℕ) → judged (firstFault (firstPass s)) (length (recordsOf s)) ≡ Accepted m
       → verdictOf s ≡ judged (firstFault (secondPass (recordsOf s))) (length (recordsOf s))

@@ -5,7 +5,7 @@ use mathlib.Core.Bool.{Bool, true, false, _&&_}
 use mathlib.Core.List.{List, [], _∷_, _++_}
 use lib.Dec.{ltb}
 use lib.ListN.{length, getD}
-use Rattle.common.specs.Checks.{Finding, clean, fault, Check, check, firstFault, eachFrom}
+use Rattle.common.specs.Checks.{Finding, Check, check, unless, firstFault, eachFrom}
 use Rattle.layout.specs.Layout.{layout, noRow, rows}
 use Rattle.layout.specs.Rules.{brokenRow}
 use Rattle.bundle.specs.Records.{Rec, stepOf, recordsOf, restOf}
@@ -67,8 +67,7 @@ unfoldable pub checks : List ℕ → List Check
 checks s = check (ltb limit (length s)) 1 0 0 ∷ (firstPass s ++ secondPass (recordsOf s))
 
 abbrev pub judged : Finding → ℕ → Judgement
-judged clean n = Accepted n
-judged (fault k p d) n = Refused k p d
+judged f n = unless Refused f (Accepted n)
 
 -- THE VERDICT: the first check that fails, or else the number of the records
 unfoldable pub verdictOf : List ℕ → Judgement

@@ -8,10 +8,10 @@ mod links;
 mod passes;
 pub mod walk;
 
-// The verdict on a bundle: how many records it has, or the first fault by number, place and detail.
+// The verdict on a bundle: how many records it has, or the first fault.
 pub enum Judgement {
     Accepted(usize),
-    Refused(u8, usize, usize),
+    Refused(common::Refusal),
 }
 
 const LIMIT: usize = 1048576;
@@ -20,11 +20,11 @@ pub fn verdict(bundle: &[u8]) -> Judgement
     ensures { λ r. ⌜ r ≡ verdictOf (now (bundle .entry)) ⌝ }
 {
     if LIMIT < bundle.len() {
-        return Judgement::Refused(1, 0, 0);
+        return Judgement::Refused(common::refuse(1, 0, 0));
     }
     let first = passes::first_pass(bundle);
     match first {
-        Judgement::Refused(number, place, detail) => Judgement::Refused(number, place, detail),
+        Judgement::Refused(why) => Judgement::Refused(why),
         Judgement::Accepted(_) => passes::second_pass(bundle),
     }
 }

@@ -19,16 +19,16 @@ pub fn first_pass(bundle: &[u8]) -> Judgement
         let here = super::walk::first_step(rest);
         match here {
             Step::Unknown => {
-                return Judgement::Refused(2, i, 0);
+                return Judgement::Refused(common::refuse(2, i, 0));
             }
             Step::Short => {
-                return Judgement::Refused(3, i, 0);
+                return Judgement::Refused(common::refuse(3, i, 0));
             }
             Step::Whole(table, start, next) => {
                 let k = layout::broken_row(table, &rest[start..next]);
                 if k < layout::ROWS {
                     let row = layout::row_at(k);
-                    return Judgement::Refused(4, i, row.field as usize);
+                    return Judgement::Refused(common::refuse(4, i, row.field as usize));
                 }
                 at += next;
                 i += 1;
@@ -54,7 +54,7 @@ pub fn second_pass(bundle: &[u8]) -> Judgement
         };
         let r = &rest[start..next];
         if !common::same_bytes(layout::field(r, 1, 4), transferor) {
-            break 'records Judgement::Refused(5, i, 0);
+            break 'records Judgement::Refused(common::refuse(5, i, 0));
         }
         let mut p = 0;
         let mut j = 0;
@@ -66,7 +66,7 @@ pub fn second_pass(bundle: &[u8]) -> Judgement
                 break 'records Judgement::Accepted(j);
             };
             if super::keys::clashes(table, r, t, &before[s..e]) {
-                break 'records Judgement::Refused(6, i, j);
+                break 'records Judgement::Refused(common::refuse(6, i, j));
             }
             p += e;
             j += 1;
@@ -74,7 +74,7 @@ pub fn second_pass(bundle: &[u8]) -> Judgement
         let k = super::links::missing_link(bundle, table, r);
         if k < super::links::LINKS {
             let link = super::links::link_at(k);
-            break 'records Judgement::Refused(7, i, link.detail);
+            break 'records Judgement::Refused(common::refuse(7, i, link.detail));
         }
         at += next;
         i += 1;

@@ -3,6 +3,7 @@
 use Prim.Native.Nat.{ℕ, zero, suc, _+_, _≤_, _<_, suc-le-suc}
 use mathlib.Core.Path.{_≡_, refl, sym, _∙_, ap}
 use mathlib.Core.Bool.{Bool, true, false, cond}
+use mathlib.Core.Logic.{_⊎_, inl, inr, ⊎-elim}
 use mathlib.Core.List.{List, [], _∷_, _++_}
 use native.Mathlib.Nat.{add-zero, le-of-suc-le-suc}
 use native.Mathlib.Omega.{arith}
@@ -11,25 +12,38 @@ use lib.Dec.{eqb}
 use lib.ListN.{length, getD, drop, drop-of-length-le}
 use lib.Seq.{drop-cons}
 use Rattle.common.specs.Lists.{every, any}
-use Rattle.common.specs.Checks.{Finding, clean, fault, Check, check, told, firstFault, eachFrom, AllPass, First, isAmong, TellsOf}
+use Rattle.common.specs.Checks.{Finding, clean, fault, Check, check, unless, firstFault, eachFrom, AllPass, First, isAmong, TellsOf}
+use Rattle.common.specs.declared.Refusal.{Refusal}
 use Rattle.common.proofs.Lists.{every-append}
 use Rattle.common.proofs.Tests.{both-true, either-false}
 
--- what comes first where nothing was found before
-abbrev pub orElse : Finding → Finding → Finding
-orElse clean rest = rest
-orElse (fault k p d) rest = fault k p d
+-- AN ANSWER TELLS WHAT WAS FOUND: nothing, and it is that of the work done; or a refusal, and it is that.
+module _ {A : Type 0} (refused : Refusal → A) where
+  pub by-finding : (f : Finding) (a : A) {x : A} → unless refused f a ≡ x → ((f ≡ clean) × (a ≡ x)) ⊎ ((r : Refusal) × (f ≡ fault r) × (refused r ≡ x))
+  by-finding clean a e = inl (refl, e)
+  by-finding (fault r) a e = inr (r, refl, e)
 
--- one check after another
-else-cond : (t : Bool) (k p d : ℕ) {r : Finding} (a b : Finding) → r ≡ orElse a b → cond t (fault k p d) r ≡ orElse (cond t (fault k p d) a) b
-else-cond true k p d a b h = refl
-else-cond false k p d a b h = h
+  pub as-found : {f : Finding} {r x : Refusal} (a : A) → f ≡ fault r → x ≡ r → refused x ≡ unless refused f a
+  as-found a e q = ap refused q ∙ sym (rw e)
+
+-- what was found first, or else what is found then
+abbrev pub orElse : Finding → Finding → Finding
+orElse f rest = unless fault f rest
+
+-- one finding after another is one answer after another
+pub unless-else : {A : Type 0} (refused : Refusal → A) (f g : Finding) (a : A) → unless refused (orElse f g) a ≡ unless refused f (unless refused g a)
+unless-else refused clean g a = refl
+unless-else refused (fault r) g a = refl
 
 -- one list of checks after another
 pub fault-append : (a b : List Check) → firstFault (a ++ b) ≡ orElse (firstFault a) (firstFault b)
 unfolding firstFault
 fault-append [] b = refl
-fault-append (c ∷ a) b = else-cond (c .fails) (c .number) (c .place) (c .detail) (firstFault a) (firstFault b) (fault-append a b)
+fault-append (c ∷ a) b = go (c .fails) (fault-append a b)
+  where
+    go : (t : Bool) {r : Finding} → r ≡ orElse (firstFault a) (firstFault b) → cond t (fault (c .tells)) r ≡ orElse (cond t (fault (c .tells)) (firstFault a)) (firstFault b)
+    go true h = refl
+    go false h = h
 
 module _ {A : Type 0} (f : ℕ → A → List Check) where
   -- the checks of the element that is counted i, then those of the rest
@@ -45,15 +59,15 @@ module _ {A : Type 0} (f : ℕ → A → List Check) where
   each-end xs i h = rw (drop-of-length-le xs h)
 
 -- WHAT IT MEANS: nothing is found exactly if every check passes,
-clean-cond : (t : Bool) (k p d : ℕ) (r : Finding) → cond t (fault k p d) r ≡ clean → (t ≡ false) × (r ≡ clean)
-clean-cond true k p d r e = let z : _≡_ {A = ℕ} 0 1 = cc in absurd (omega arith)
-clean-cond false k p d r e = (refl, e)
+clean-cond : (t : Bool) (r : Refusal) (f : Finding) → cond t (fault r) f ≡ clean → (t ≡ false) × (f ≡ clean)
+clean-cond true r f e = (cc, cc)
+clean-cond false r f e = (refl, e)
 
 pub clean-means : (cs : List Check) → firstFault cs ≡ clean → AllPass cs
 unfolding firstFault any
 clean-means [] e = refl
 clean-means (c ∷ cs) e =
-    let d = clean-cond (c .fails) (c .number) (c .place) (c .detail) (firstFault cs) e in
+    let d = clean-cond (c .fails) (c .tells) (firstFault cs) e in
     rw (d .0) (clean-means cs (d .1))
 
 pub means-clean : (cs : List Check) → AllPass cs → firstFault cs ≡ clean
@@ -64,59 +78,45 @@ means-clean (c ∷ cs) e =
     rw (d .0) (means-clean cs (d .1))
 
 -- and a fault exactly if it is the first of the list.
-fault-cond : (c : Check) (cs : List Check) (k p d : ℕ) (t : Bool) → c .fails ≡ t → cond t (told c) (firstFault cs) ≡ fault k p d
-    → (firstFault cs ≡ fault k p d → First cs k p d) → First (c ∷ cs) k p d
-unfolding any
-fault-cond c cs k p d true q e ih =
-    record {
-      before = [];
-      after = cs;
-      split = ap (λ (x : Check). x ∷ cs) (λ i. record { fails = q i; number = number-of e i; place = place-of e i; detail = detail-of e i });
-      earlier-pass = refl;
-    }
+pub fault-means : (cs : List Check) (r : Refusal) → firstFault cs ≡ fault r → First cs r
+unfolding firstFault any
+fault-means [] r e = let z : _≡_ {A = ℕ} 0 1 = cc in absurd (omega arith)
+fault-means (c ∷ cs) r e = go (c .fails) refl e (fault-means cs r)
   where
-    number-of : told c ≡ fault k p d → c .number ≡ k
-    number-of h = cc
+    go : (t : Bool) → c .fails ≡ t → cond t (fault (c .tells)) (firstFault cs) ≡ fault r → (firstFault cs ≡ fault r → First cs r) → First (c ∷ cs) r
+    go true q h later =
+        let same : c .tells ≡ r = cc in
+        record {
+          before = [];
+          after = cs;
+          split = ap (λ (x : Check). x ∷ cs) (λ i. record { fails = q i; tells = same i });
+          earlier-pass = refl;
+        }
+    go false q h later =
+        let f = later h in
+        record {
+          before = c ∷ f .before;
+          after = f .after;
+          split = ap (λ (xs : List Check). c ∷ xs) (f .split);
+          earlier-pass = rw q (f .earlier-pass);
+        }
 
-    place-of : told c ≡ fault k p d → c .place ≡ p
-    place-of h = cc
-
-    detail-of : told c ≡ fault k p d → c .detail ≡ d
-    detail-of h = cc
-fault-cond c cs k p d false q e ih =
-    let f = ih e in
-    record {
-      before = c ∷ f .before;
-      after = f .after;
-      split = ap (λ (xs : List Check). c ∷ xs) (f .split);
-      earlier-pass = rw q (f .earlier-pass);
-    }
-
-pub fault-means : (cs : List Check) (k p d : ℕ) → firstFault cs ≡ fault k p d → First cs k p d
+pub means-fault : (cs : List Check) (r : Refusal) → First cs r → firstFault cs ≡ fault r
 unfolding firstFault
-fault-means [] k p d e = let z : _≡_ {A = ℕ} 0 1 = cc in absurd (omega arith)
-fault-means (c ∷ cs) k p d e = fault-cond c cs k p d (c .fails) refl e (fault-means cs k p d)
-
-pub means-fault : (cs : List Check) (k p d : ℕ) → First cs k p d → firstFault cs ≡ fault k p d
-unfolding firstFault
-means-fault cs k p d f =
-    rw (f .split) (fault-append (f .before) (check true k p d ∷ f .after) ∙ rw (means-clean (f .before) (f .earlier-pass)))
+means-fault cs r f =
+    rw (f .split) (fault-append (f .before) (record { fails = true; tells = r } ∷ f .after) ∙ rw (means-clean (f .before) (f .earlier-pass)))
 
 -- IN PARTS: a list of checks finds nothing exactly if its parts do, and a check if it passes.
 pub one-clean : (b : Bool) (k p d : ℕ) (cs : List Check) → firstFault (check b k p d ∷ cs) ≡ clean → (b ≡ false) × (firstFault cs ≡ clean)
 unfolding firstFault
-one-clean b k p d cs e = clean-cond b k p d (firstFault cs) e
+one-clean b k p d cs e = clean-cond b _ (firstFault cs) e
 
 pub clean-one : (b : Bool) (k p d : ℕ) (cs : List Check) → b ≡ false → firstFault cs ≡ clean → firstFault (check b k p d ∷ cs) ≡ clean
 unfolding firstFault
 clean-one b k p d cs e f = rw e f
 
-both-clean : (a b : Finding) → orElse a b ≡ clean → (a ≡ clean) × (b ≡ clean)
-both-clean clean b e = (refl, e)
-both-clean (fault k p d) b e = let z : _≡_ {A = ℕ} 0 1 = cc in absurd (omega arith)
-
 pub append-clean : (a b : List Check) → firstFault (a ++ b) ≡ clean → (firstFault a ≡ clean) × (firstFault b ≡ clean)
-append-clean a b e = both-clean (firstFault a) (firstFault b) (sym (fault-append a b) ∙ e)
+append-clean a b e = ⊎-elim (λ h. h) (λ h. (cc, cc)) (by-finding fault (firstFault a) (firstFault b) (sym (fault-append a b) ∙ e))
 
 pub clean-append : (a b : List Check) → firstFault a ≡ clean → firstFault b ≡ clean → firstFault (a ++ b) ≡ clean
 clean-append a b e f = fault-append a b ∙ rw e f
@@ -147,10 +147,10 @@ module _ (ns : List ℕ) where
   each-tells f g i [] = refl
   each-tells f g i (x ∷ xs) = append-tells (f i x) (eachFrom (i + 1) f xs) (g i x) (each-tells f g (i + 1) xs)
 
-  pub first-among : (cs : List Check) → TellsOf ns cs → (k p d : ℕ) → First cs k p d → any (eqb k) ns ≡ true
+  pub first-among : (cs : List Check) → TellsOf ns cs → (r : Refusal) → First cs r → any (eqb (r .number)) ns ≡ true
   unfolding every
-  first-among cs e k p d f =
-      let c = check true k p d in
+  first-among cs e r f =
+      let c : Check = record { fails = true; tells = r } in
       let m : TellsOf ns (f .before ++ (c ∷ f .after)) = rw (← f .split) e in
-      let r = both-true (every (isAmong ns) (f .before)) (every (isAmong ns) (c ∷ f .after)) (sym (every-append (isAmong ns) (f .before) (c ∷ f .after)) ∙ m) in
-      both-true (isAmong ns c) (every (isAmong ns) (f .after)) (r .1) .0
+      let b = both-true (every (isAmong ns) (f .before)) (every (isAmong ns) (c ∷ f .after)) (sym (every-append (isAmong ns) (f .before) (c ∷ f .after)) ∙ m) in
+      both-true (isAmong ns c) (every (isAmong ns) (f .after)) (b .1) .0

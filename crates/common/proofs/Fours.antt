@@ -6,15 +6,15 @@ use mathlib.Core.List.{List}
 use native.Mathlib.Omega.{arith}
 use lib.ListN.{getD}
 use borrow.Author.Count.{below-more}
-use Rattle.common.specs.Lists.{joined, fourAt}
+use Rattle.common.specs.Helpers.{fourBytes, fourAt}
 
 -- the lowest byte of a number, and the rest of it
 lowest-rest : (x y m n : ℕ) → x < 256 → y < 256 → x + m * 256 ≡ y + n * 256 → (x ≡ y) × (m ≡ n)
 lowest-rest x y m n h k e = (omega arith, omega arith)
 
 module _ (w x y z w′ x′ y′ z′ : ℕ) (hw : w < 256) (hx : x < 256) (hy : y < 256) (hw′ : w′ < 256) (hx′ : x′ < 256) (hy′ : y′ < 256) where
-  joined-says : joined w x y z ≡ joined w′ x′ y′ z′ → (w ≡ w′) × (x ≡ x′) × (y ≡ y′) × (z ≡ z′)
-  joined-says e =
+  bytes-said : fourBytes w x y z ≡ fourBytes w′ x′ y′ z′ → (w ≡ w′) × (x ≡ x′) × (y ≡ y′) × (z ≡ z′)
+  bytes-said e =
       let a = lowest-rest w w′ (x + (y + z * 256) * 256) (x′ + (y′ + z′ * 256) * 256) hw hw′ (omega arith) in
       let b = lowest-rest x x′ (y + z * 256) (y′ + z′ * 256) hx hx′ (a .1) in
       let c = lowest-rest y y′ z z′ hy hy′ (b .1) in
@@ -32,5 +32,5 @@ below-four {P} i f p q r s =
 module _ (a b : List ℕ) (bytes-a : (k : ℕ) → getD a k 0 < 256) (bytes-b : (k : ℕ) → getD b k 0 < 256) where
   pub four-more : (i : ℕ) → ((k : ℕ) → k < i → getD a k 0 ≡ getD b k 0) → fourAt i a ≡ fourAt i b → (k : ℕ) → k < i + 4 → getD a k 0 ≡ getD b k 0
   four-more i f e =
-      let h = joined-says _ _ _ _ _ _ _ _ (bytes-a i) (bytes-a (i + 1)) (bytes-a (i + 2)) (bytes-b i) (bytes-b (i + 1)) (bytes-b (i + 2)) e in
+      let h = bytes-said _ _ _ _ _ _ _ _ (bytes-a i) (bytes-a (i + 1)) (bytes-a (i + 2)) (bytes-b i) (bytes-b (i + 1)) (bytes-b (i + 2)) e in
       below-four i f (h .0) (h .1) (h .2) (h .3)

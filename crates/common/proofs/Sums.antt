@@ -39,12 +39,14 @@ module _ {A : Type 0} (f : A → ℕ) (xs : List A) (k : ℕ) (d : A) (l : k < l
       let w : length (map f (take k xs)) ≡ k = rw (length-map, length-take) (omega arith) in
       rw (z, map-next, append-assoc) (set-at (map f (take k xs)) 0 (replicate (n - (k + 1)) 0) (f (getD xs k d)) k w)
 
--- each at most b, so many of them at most as many times b
-pub sum-small : (xs : List ℕ) (b : ℕ) → ((k : ℕ) → k < length xs → getD xs k 0 ≤ b) → sum xs ≤ length xs * b
+-- each of the first k at most b, and so all of them at most k times b
+pub sum-small : {A : Type 0} (f : A → ℕ) (xs : List A) (d : A) (b k : ℕ) → k ≤ length xs → ((j : ℕ) → j < k → f (getD xs j d) ≤ b)
+    → sum (map f (take k xs)) ≤ k * b
 unfolding sum
-sum-small [] b h = omega arith
-sum-small (x ∷ xs) b h =
-    omega (arith, h 0 (omega arith), sum-small xs b (λ k l. h (suc k) (omega arith)), suc-mul (length xs) b)
+sum-small f xs d b zero l h = omega arith
+sum-small f xs d b (suc k) l h =
+    let e : sum (map f (take (suc k) xs)) ≡ sum (map f (take k xs)) + f (getD xs k d) = rw (← add-one) (sum-next f xs k d l) in
+    omega (arith, e, h k (omega arith), sum-small f xs d b k (omega arith) (λ j g. h j (omega arith)), suc-mul k b)
 
 -- an element of what a function made of a list
 pub map-at : {A : Type 0} (f : A → ℕ) (xs : List A) (k z : ℕ) (d : A) → k < length xs → getD (map f xs) k z ≡ f (getD xs k d)

@@ -2,3 +2,4 @@ pub mod Least
 pub mod Lists
 pub mod Digits
 pub mod Checks
+pub mod Helpers

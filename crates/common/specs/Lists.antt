@@ -1,6 +1,6 @@
 -- For all, there is, the same, the sum: over any list.
 -- Assumes nothing.
-use Prim.Native.Nat.{ℕ, zero, suc, _+_, _-_, _*_}
+use Prim.Native.Nat.{ℕ, zero, suc, _+_, _-_}
 use mathlib.Core.Bool.{Bool, true, false, _&&_, _||_}
 use mathlib.Core.List.{List, [], _∷_, _++_}
 use lib.Dec.{eqb}
@@ -40,11 +40,3 @@ byteAt position s = getD s (position - 1) 0
 unfoldable pub upTo : {A : Type 0} → (ℕ → A) → ℕ → List A
 upTo f zero = []
 upTo f (suc n) = upTo f n ++ (f n ∷ [])
-
--- four bytes as one number
-abbrev pub joined : ℕ → ℕ → ℕ → ℕ → ℕ
-joined lowest low high highest = lowest + low * 256 + high * 65536 + highest * 16777216
-
--- those from a place on, counted from 0
-abbrev pub fourAt : ℕ → List ℕ → ℕ
-fourAt i s = joined (getD s i 0) (getD s (i + 1) 0) (getD s (i + 2) 0) (getD s (i + 3) 0)

@@ -1,15 +1,35 @@
-// Searches and lists that every later crate cites. Nothing here knows of railways.
+// Searches, lists and refusals that every later crate cites. Nothing here knows of railways.
 ghost use mathlib.Core.Path.{_≡_};
 ghost use mathlib.Core.Bool.{_&&_};
 ghost use Prim.Native.Nat.{_+_, _-_, _≤_};
 ghost use lib.ListN.{length, take, drop};
-ghost use Rattle.common.specs.Lists.{same, byteAt, joined, fourAt};
+ghost use Rattle.common.specs.Lists.{same, byteAt};
 ghost use Rattle.common.specs.Digits.{numberOf, valueOf, isWithin};
+ghost use Rattle.common.specs.Checks.{refuse};
+ghost use Rattle.common.specs.Helpers.{fourBytes, fourAt};
 
 // What a few bytes say as a decimal number.
 pub enum Num {
     Is(u32),
     Not,
+}
+
+// Why work is turned away: the number of the check that failed, its place and its detail.
+pub struct Refusal {
+    pub number: u8,
+    pub place: usize,
+    pub detail: usize,
+}
+
+// A function `refusal` would clash with the struct's name.
+pub fn refuse(number: u8, place: usize, detail: usize) -> Refusal
+    ensures { λ r. ⌜ r ≡ refuse number place detail ⌝ }
+{
+    Refusal {
+        number,
+        place,
+        detail,
+    }
 }
 
 pub fn both(a: bool, b: bool) -> bool
@@ -90,7 +110,7 @@ fn four_at(s: &[u8], i: usize) -> u32
 }
 
 fn four(lowest: u8, low: u8, high: u8, highest: u8) -> u32
-    ensures { λ r. ⌜ r ≡ joined lowest low high highest ⌝ }
+    ensures { λ r. ⌜ r ≡ fourBytes lowest low high highest ⌝ }
 {
     lowest as u32 + low as u32 * 256 + high as u32 * 65536 + highest as u32 * 16777216
 }

@@ -4,17 +4,18 @@ use Prim.Native.Nat.{ℕ, _+_, _-_, _*_, _≤_, _<_}
 use mathlib.Core.Path.{_≡_, refl, sym, _∙_, ap}
 use mathlib.Core.Bool.{true, false, cond}
 use mathlib.Core.List.{List, [], _∷_, _++_, map}
+use mathlib.Core.Logic.{⊎-elim}
 use native.Mathlib.Omega.{arith}
 use lib.Dec.{leb, ltb}
-use lib.ListN.{length, getD, take, drop, length-take, length-map}
-use lib.Seq.{getD-take}
+use lib.ListN.{length, getD, take, drop}
 use borrow.Author.Tests.{leb-true}
 use Rattle.common.specs.Lists.{sum}
-use Rattle.common.specs.Checks.{Finding, clean, fault, Check, check, firstFault, eachFrom}
+use Rattle.common.specs.Checks.{refuse, Finding, clean, fault, Check, check, firstFault, eachFrom}
+use Rattle.common.specs.declared.Refusal.{Refusal}
 use Rattle.common.proofs.Tests.{both-true}
 use Rattle.common.proofs.Lists.{every-at}
-use Rattle.common.proofs.Checks.{orElse, fault-append, each-step, each-end}
-use Rattle.common.proofs.Sums.{sum-small, map-at}
+use Rattle.common.proofs.Checks.{by-finding, as-found, orElse, unless-else, fault-append, each-step, each-end}
+use Rattle.common.proofs.Sums.{sum-small}
 use Rattle.bundle.specs.Records.{Rec, recordsOf}
 use Rattle.bundle.specs.Verdict.{checks, verdictOf}
 use Rattle.bundle.specs.declared.Judgement.the-variants as verdict
@@ -22,7 +23,7 @@ use Rattle.bundle.proofs.PassLaws.{is-fault, is-clean}
 use Rattle.fares.specs.Question.{between, legInLimits, noLeg, legsOf, limitsOf, inLimits}
 use Rattle.fares.specs.Reductions.{partBound}
 use Rattle.fares.specs.Legs.{legChecks, partOf, chosenBody, conditionsFor, answered}
-use Rattle.fares.specs.Fare.{partsOf, mostFare, priceChecks, fareChecks, refusal, quoted, priceOf, fareOf}
+use Rattle.fares.specs.Fare.{partsOf, mostFare, priceChecks, fareChecks, noFare, quoted, priceOf, fareOf}
 use Rattle.fares.specs.declared.Question.{Question}
 use Rattle.fares.specs.declared.legs.Priced.the-variants.{Part, Refused}
 use Rattle.fares.proofs.LegLaws.{leg-small}
@@ -48,21 +49,16 @@ asked q e =
     }
 
 -- an answer tells what was found
-pub is-refused : (f : Finding) (x n p d : ℕ) → answered f x ≡ Refused n p d → f ≡ fault n p d
-is-refused clean x n p d e = let z : _≡_ {A = ℕ} 0 1 = cc in absurd (omega arith)
-is-refused (fault a b c) x n p d e =
-    let i : a ≡ n = cc in
-    let j : b ≡ p = cc in
-    let k : c ≡ d = cc in
-    rw (i, j, k)
+module _ (f : Finding) (part : ℕ) where
+  pub is-refused : (r : Refusal) → answered f part ≡ Refused r → f ≡ fault r
+  is-refused r e = ⊎-elim (λ h. cc) (λ h. cc) (by-finding Refused f (Part part) e)
 
-pub is-part : (f : Finding) (x y : ℕ) → answered f x ≡ Part y → (f ≡ clean) × (x ≡ y)
-is-part clean x y e = (refl, cc)
-is-part (fault a b c) x y e = let z : _≡_ {A = ℕ} 0 1 = cc in absurd (omega arith)
+  pub is-part : (x : ℕ) → answered f part ≡ Part x → (f ≡ clean) × (part ≡ x)
+  is-part x e = ⊎-elim (λ h. (h .0, cc)) (λ h. (cc, cc)) (by-finding Refused f (Part part) e)
 
 module _ (R : List Rec) (q : Question) where
-  pub limits-fail : inLimits q ≡ false → priceOf R q ≡ refusal 11 0 0
-  unfolding priceOf priceChecks firstFault
+  pub limits-fail : inLimits q ≡ false → firstFault (priceChecks R q) ≡ fault (refuse 11 0 0)
+  unfolding priceChecks firstFault
   limits-fail e = rw e
 
   lastCheck : List Check
@@ -80,21 +76,17 @@ module _ (R : List Rec) (q : Question) where
   unfolding left
   left-step k l =
       fault-append (eachFrom k (legChecks R q) (drop k (legsOf q))) lastCheck
-      ∙ (rw (each-step (legChecks R q) (legsOf q) k noLeg l) (else-assoc (firstFault (legChecks R q k (getD (legsOf q) k noLeg))) (firstFault (eachFrom (k + 1) (legChecks R q) (drop (k + 1) (legsOf q)))) (firstFault lastCheck))
+      ∙ (rw (each-step (legChecks R q) (legsOf q) k noLeg l) (unless-else fault (firstFault (legChecks R q k (getD (legsOf q) k noLeg))) (firstFault (eachFrom (k + 1) (legChecks R q) (drop (k + 1) (legsOf q)))) (firstFault lastCheck))
       ∙ ap (orElse (firstFault (legChecks R q k (getD (legsOf q) k noLeg)))) (sym (fault-append (eachFrom (k + 1) (legChecks R q) (drop (k + 1) (legsOf q))) lastCheck)))
-    where
-      else-assoc : (a b c : Finding) → orElse (orElse a b) c ≡ orElse a (orElse b c)
-      else-assoc clean b c = refl
-      else-assoc (fault x y z) b c = refl
 
-  pub left-end : (k : ℕ) → length (legsOf q) ≤ k → left k ≡ cond (ltb mostFare (sum (partsOf R q))) (fault 16 0 0) clean
+  pub left-end : (k : ℕ) → length (legsOf q) ≤ k → left k ≡ cond (ltb mostFare (sum (partsOf R q))) (fault (refuse 16 0 0)) clean
   unfolding left lastCheck firstFault
   left-end k l = rw (each-end (legChecks R q) (legsOf q) k l)
 
-  -- a leg is refused, or the fare is too high, or all is well
-  pub by-leg : (n p d : ℕ) → firstFault (priceChecks R q) ≡ fault n p d → priceOf R q ≡ refusal n p d
+  -- the limits, a leg or the fare is refused, or all is well
+  pub no-fare : {r x : Refusal} → firstFault (priceChecks R q) ≡ fault r → x ≡ r → noFare x ≡ priceOf R q
   unfolding priceOf
-  by-leg n p d e = rw e
+  no-fare e f = as-found noFare _ e f
 
   pub all-well : firstFault (priceChecks R q) ≡ clean → priceOf R q ≡ quoted clean (partsOf R q)
   unfolding priceOf
@@ -108,21 +100,14 @@ module _ (R : List Rec) (q : Question) where
         leg-small R q leg (chosenBody R (conditionsFor R q leg)) (a .fares k l) (a .persons)
 
     pub sum-of-parts : (k : ℕ) → k ≤ length (legsOf q) → sum (map (partOf R q) (take k (legsOf q))) ≤ k * partBound
-    sum-of-parts k l =
-        let xs = map (partOf R q) (take k (legsOf q)) in
-        let n : length xs ≡ k = rw (length-map, length-take) (omega arith) in
-        rw n at (sum-small xs partBound (λ j h. at-most j (omega (arith, n))))
-      where
-        at-most : (j : ℕ) → j < k → getD (map (partOf R q) (take k (legsOf q))) j 0 ≤ partBound
-        at-most j h =
-            rw (map-at (partOf R q) (take k (legsOf q)) j 0 noLeg (rw length-take (omega arith)), getD-take k (legsOf q) j noLeg h) (part-small j (omega arith))
+    sum-of-parts k l = sum-small (partOf R q) (legsOf q) noLeg partBound k l (λ j h. part-small j (omega arith))
 
 -- the verdict comes first
 module _ (s : List ℕ) (q : Question) where
-  pub verdict-first : (n p d : ℕ) → verdictOf s ≡ verdict.Refused n p d → fareOf s q ≡ refusal n p d
+  pub verdict-first : (r : Refusal) → verdictOf s ≡ verdict.Refused r → fareOf s q ≡ noFare r
   unfolding fareOf fareChecks verdictOf
-  verdict-first n p d e =
-      let f = is-fault (firstFault (checks s)) (length (recordsOf s)) n p d e in
+  verdict-first r e =
+      let f = is-fault (firstFault (checks s)) (length (recordsOf s)) r e in
       rw (fault-append (checks s) (priceChecks (recordsOf s) q), f)
 
   pub then-the-price : (n : ℕ) → verdictOf s ≡ verdict.Accepted n → fareOf s q ≡ priceOf (recordsOf s) q

@@ -9,7 +9,7 @@ use native.Mathlib.Omega.{arith}
 use lib.ListN.{length, getD}
 use borrow.Author.Tests.{eq-eqb, ne-eqb}
 use Rattle.common.specs.Lists.{byteAt}
-use Rattle.common.specs.Checks.{firstFault}
+use Rattle.common.specs.Checks.{refuse, fault, firstFault}
 use Rattle.layout.specs.Bytes.{byte-Y}
 use Rattle.layout.specs.Tables.{AR}
 use Rattle.bundle.specs.Records.{Rec, noRec}
@@ -18,7 +18,6 @@ use Rattle.bundle.specs.declared.choice.Choice.{Choice}
 use Rattle.bundle.specs.declared.choice.Choice.the-variants.{At, NotThatDay, Nothing}
 use Rattle.fares.specs.Reductions.{conditionsGrant, reduceBy, reduceAll, partBound}
 use Rattle.fares.specs.Legs.{byCard, cardCounts, cardSteps, stepsOf, partBy, partOf, conditionsFor, legChecks, answered, answerBy}
-use Rattle.fares.specs.declared.legs.Priced.the-variants.{Refused}
 use Rattle.fares.specs.declared.Leg.{Leg}
 use Rattle.fares.specs.declared.Question.{Question}
 use Rattle.fares.specs.declared.reductions.Reduction.{Reduction}
@@ -58,11 +57,11 @@ card-steps R q railway co c y = rw (ne-eqb (q .card) 0 c, eq-eqb (byteAt 122 co)
 
 -- what the choice of the CO says of the leg
 module _ (R : List Rec) (q : Question) (k : ℕ) (leg : Leg) where
-  pub no-conditions : conditionsFor R q leg ≡ Nothing → answered (firstFault (legChecks R q k leg)) (partOf R q leg) ≡ Refused 12 k 0
+  pub no-conditions : conditionsFor R q leg ≡ Nothing → firstFault (legChecks R q k leg) ≡ fault (refuse 12 k 0)
   unfolding firstFault
   no-conditions e = rw e
 
-  pub off-day : conditionsFor R q leg ≡ NotThatDay → answered (firstFault (legChecks R q k leg)) (partOf R q leg) ≡ Refused 13 k 0
+  pub off-day : conditionsFor R q leg ≡ NotThatDay → firstFault (legChecks R q k leg) ≡ fault (refuse 13 k 0)
   unfolding firstFault
   off-day e = rw e
 

@@ -6,7 +6,8 @@ use mathlib.Core.List.{List, [], _∷_, _++_, map}
 use lib.Dec.{ltb}
 use lib.ListN.{replicate}
 use Rattle.common.specs.Lists.{sum}
-use Rattle.common.specs.Checks.{Finding, clean, fault, Check, check, firstFault, eachFrom}
+use Rattle.common.specs.Checks.{Finding, Check, check, unless, firstFault, eachFrom}
+use Rattle.common.specs.declared.Refusal.{Refusal}
 use Rattle.bundle.specs.Records.{Rec, recordsOf}
 use Rattle.bundle.specs.Verdict.{checks}
 use Rattle.fares.specs.Question.{legsOf, inLimits}
@@ -34,15 +35,14 @@ unfoldable pub fareChecks : List ℕ → Question → List Check
 fareChecks s q = checks s ++ priceChecks (recordsOf s) q
 
 -- "Every refusal answers with all amounts zero"
-abbrev pub refusal : ℕ → ℕ → ℕ → Quote
-refusal k p d = record { outcome = Refused k p d; fare = 0; parts = replicate 8 0 }
+abbrev pub noFare : Refusal → Quote
+noFare r = record { outcome = Refused r; fare = 0; parts = replicate 8 0 }
 
 abbrev pub priced : List ℕ → Quote
 priced parts = record { outcome = Priced; fare = sum parts; parts = parts }
 
 abbrev pub quoted : Finding → List ℕ → Quote
-quoted clean parts = priced parts
-quoted (fault k p d) parts = refusal k p d
+quoted f parts = unless noFare f (priced parts)
 
 -- the fare from records, and THE FARE from a bundle
 unfoldable pub priceOf : List Rec → Question → Quote

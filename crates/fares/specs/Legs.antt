@@ -8,7 +8,7 @@ use lib.ListN.{getD}
 use Rattle.common.specs.Least.{least}
 use Rattle.common.specs.Lists.{byteAt}
 use Rattle.common.specs.Digits.{numberOf, valueOf}
-use Rattle.common.specs.Checks.{Finding, clean, fault, Check, check, firstFault}
+use Rattle.common.specs.Checks.{Finding, Check, check, unless, firstFault}
 use Rattle.layout.specs.Bytes.{byte-Y}
 use Rattle.layout.specs.Tables.{CO, AR}
 use Rattle.layout.specs.Rules.{fieldAt}
@@ -119,8 +119,7 @@ legChecks R q k leg =
     conditionChecks q k (chosenBody R c)
 
 abbrev pub answered : Finding → ℕ → Priced
-answered clean part = Part part
-answered (fault k p d) part = Refused k p d
+answered f part = unless Refused f (Part part)
 
 unfoldable pub answerBy : List Rec → Question → ℕ → Leg → List ℕ → Priced
 answerBy R q k leg co = answered (firstFault (conditionChecks q k co)) (partBy R q leg co)

@@ -14,7 +14,7 @@ use bundle::choice::Choice;
 // A leg's part of the fare, or why it is refused.
 pub enum Priced {
     Part(u32),
-    Refused(u8, usize, usize),
+    Refused(common::Refusal),
 }
 
 // A condition that the engine does not read: its field, and the position of its flag.
@@ -107,12 +107,12 @@ fn price_by<'a>(bundle: &'a [u8], q: Question, k: usize, leg: Leg, co: &'a [u8])
 {
     let persons = q.persons;
     if !persons_fit(co, persons) {
-        return Priced::Refused(14, k, 0);
+        return Priced::Refused(common::refuse(14, k, 0));
     }
     let unread = unread_flag(co);
     if unread < FLAGS {
         let flag = flag_at(unread);
-        return Priced::Refused(15, k, flag.field);
+        return Priced::Refused(common::refuse(15, k, flag.field));
     }
     let reduced = reduce(leg.fare as u64, reduction_at(co, 128, 134, 135));
     let amount = after_card(bundle, q, leg.railway, co, reduced);
@@ -126,8 +126,8 @@ pub fn price_leg(bundle: &[u8], q: Question, k: usize, leg: Leg) -> Priced
 {
     let chosen = bundle::choice::choose(bundle, layout::CO, q.offer, leg.railway, 0, q.day);
     match chosen {
-        Choice::Nothing => Priced::Refused(12, k, 0),
-        Choice::NotThatDay => Priced::Refused(13, k, 0),
+        Choice::Nothing => Priced::Refused(common::refuse(12, k, 0)),
+        Choice::NotThatDay => Priced::Refused(common::refuse(13, k, 0)),
         Choice::At(place) => price_by(bundle, q, k, leg, bundle::walk::body_at(bundle, place)),
     }
 }

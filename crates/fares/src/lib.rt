@@ -1,7 +1,7 @@
 // The fare of a ticket, leg by leg.
 ghost use mathlib.Core.Path.{_≡_};
 ghost use Rattle.bundle.specs.Records.{recordsOf};
-ghost use Rattle.fares.specs.Fare.{refusal, priceOf, fareOf};
+ghost use Rattle.fares.specs.Fare.{noFare, priceOf, fareOf};
 
 mod legs;
 pub mod limits;
@@ -26,10 +26,10 @@ pub struct Question {
     pub legs: [Leg; 8],
 }
 
-// Whether a fare was found, or why not: number, place and detail.
+// Whether a fare was found, or why not.
 pub enum Pricing {
     Priced,
-    Refused(u8, usize, usize),
+    Refused(common::Refusal),
 }
 
 // The parts of the legs in cents, zeros after them, and the fare as their sum; all zero where it is refused.
@@ -39,11 +39,11 @@ pub struct Quote {
     pub parts: [u32; 8],
 }
 
-fn refused(number: u8, place: usize, detail: usize) -> Quote
-    ensures { λ r. ⌜ r ≡ refusal number place detail ⌝ }
+fn refused(why: common::Refusal) -> Quote
+    ensures { λ r. ⌜ r ≡ noFare why ⌝ }
 {
     Quote {
-        outcome: Pricing::Refused(number, place, detail),
+        outcome: Pricing::Refused(why),
         fare: 0,
         parts: [0; 8],
     }
@@ -56,7 +56,7 @@ pub fn price(bundle: &[u8], q: Question) -> Quote
     ensures { λ r. ⌜ r ≡ priceOf (recordsOf (now (bundle .entry))) q ⌝ }
 {
     if !limits::in_limits(q) {
-        return refused(11, 0, 0);
+        return refused(common::refuse(11, 0, 0));
     }
     let legs = q.legs;
     let count = q.count as usize;
@@ -67,8 +67,8 @@ pub fn price(bundle: &[u8], q: Question) -> Quote
         let leg = legs[k];
         let answer = legs::price_leg(bundle, q, k, leg);
         match answer {
-            legs::Priced::Refused(number, place, detail) => {
-                return refused(number, place, detail);
+            legs::Priced::Refused(why) => {
+                return refused(why);
             }
             legs::Priced::Part(part) => {
                 parts[k] = part;
@@ -78,7 +78,7 @@ pub fn price(bundle: &[u8], q: Question) -> Quote
         }
     }
     if MOST_FARE < fare {
-        return refused(16, 0, 0);
+        return refused(common::refuse(16, 0, 0));
     }
     Quote {
         outcome: Pricing::Priced,
@@ -93,7 +93,7 @@ pub fn fare(bundle: &[u8], q: Question) -> Quote
 {
     let judged = bundle::verdict(bundle);
     match judged {
-        bundle::Judgement::Refused(number, place, detail) => refused(number, place, detail),
+        bundle::Judgement::Refused(why) => refused(why),
         bundle::Judgement::Accepted(_) => price(bundle, q),
     }
 }

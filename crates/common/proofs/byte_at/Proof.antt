@@ -7,17 +7,9 @@ use borrow.Author.Needs.{needs}
 use Rattle.common.proofs.byte_at.Statement.{statement}
 use Rattle.common.proofs.byte_at.Tie as tie
 
-less-requires : tie.Need-less-requires
-less-requires c κs = search needs
-
-shared-slice-read-result : tie.Need-shared-slice-read-result
-shared-slice-read-result c = search needs
-
-returns : tie.Need-returns
-returns c = rw (c .before .before .less .ensures)
-
 returns-2 : tie.Need-returns-2
 returns-2 c = sym (List·getD-eq-default (c .before .before .before .args .s .now) 0 (omega (arith, c .before .less .ensures)))
 
 pub byte-at-spec : {M : Type 1} → statement M
-byte-at-spec = tie.close (tie.spec less-requires shared-slice-read-result returns returns-2)
+byte-at-spec =
+    tie.close (tie.spec (λ c κs. search needs) (λ c. search needs) (λ c. rw (c .before .before .less .ensures)) returns-2)

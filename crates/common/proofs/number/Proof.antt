@@ -17,17 +17,6 @@ Inv-loop s v₀ i₀ v i = (i ≤ length s) × (length s ≤ 9) × (v < 10 ^ i) 
 abbrev μ-loop : tie.MeasureT-loop
 μ-loop s v₀ i₀ v i = length s - i
 
-returns : tie.Need-returns Inv-loop μ-loop
-unfolding numberOf
-returns c = rw (lt-ltb _ _ (c .if1 .taken))
-
-loop-holds : tie.Need-loop-holds Inv-loop μ-loop
-unfolding numberOf
-loop-holds c = (omega arith, omega arith, omega arith, rw (le-ltb _ _ (c .if1 .left)))
-
-shared-slice-read-b : tie.Need-shared-slice-read-b Inv-loop μ-loop
-shared-slice-read-b c = search needs
-
 returns-2 : tie.Need-returns-2 Inv-loop μ-loop
 returns-2 c =
     let l = c .before .before .before in
@@ -37,9 +26,6 @@ returns-3 : tie.Need-returns-3 Inv-loop μ-loop
 returns-3 c =
     let l = c .before .before .before .before in
     sym (l .loop .inv .3 ∙ (digits-step _ _ _ (c .before .before .before .loop-test .taken) ∙ simp (le-leb _ _ (c .before .if2 .left), lt-leb _ _ (c .if3 .taken)) refl))
-
-cast-d : tie.Need-cast-d Inv-loop μ-loop
-cast-d c = search needs
 
 mul-v : tie.Need-mul-v Inv-loop μ-loop
 mul-v c =
@@ -51,12 +37,6 @@ add-v c =
     let l = c .before .before .before .before in
     omega (arith, small (l .loop .v) _ (getD (l .before .before .args .s .now) (l .loop .i) 0 - digit-0) (l .loop .inv .2) (omega arith) (omega arith))
 
-add-i : tie.Need-add-i Inv-loop μ-loop
-add-i c = search needs
-
-loop-less : tie.Need-loop-less Inv-loop μ-loop
-loop-less c = search needs
-
 loop-again : tie.Need-loop-again Inv-loop μ-loop
 loop-again c =
     let l = c .before .before .before .before in (
@@ -66,10 +46,10 @@ loop-again c =
       l .loop .inv .3 ∙ (digits-step _ _ _ (c .before .before .before .loop-test .taken) ∙ simp (le-leb _ _ (c .before .if2 .left), le-leb _ _ (c .if3 .left)) refl),
     )
 
-returns-4 : tie.Need-returns-4 Inv-loop μ-loop
-returns-4 c = sym (c .before .loop .inv .3 ∙ digits-end _ _ _ (c .loop-test .left))
-
 pub number-spec : {M : Type 1} → statement M
+unfolding numberOf
 number-spec =
-    tie.close
-    (tie.spec Inv-loop μ-loop returns loop-holds shared-slice-read-b returns-2 returns-3 cast-d mul-v add-v add-i loop-less loop-again returns-4)
+    tie.close (tie.spec
+    Inv-loop μ-loop (λ c. rw (lt-ltb _ _ (c .if1 .taken))) (λ c. (omega arith, omega arith, omega arith, rw (le-ltb _ _ (c .if1 .left))))
+    (λ c. search needs) returns-2 returns-3 (λ c. search needs) mul-v add-v (λ c. search needs) (λ c. search needs) loop-again
+    (λ c. sym (c .before .loop .inv .3 ∙ digits-end _ _ _ (c .loop-test .left))))

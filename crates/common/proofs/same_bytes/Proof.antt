@@ -8,7 +8,7 @@ use lib.ListN.{length, getD}
 use lib.Seq.{ext-getD}
 use borrow.Author.Count.{below-none, below-more}
 use borrow.Author.Needs.{needs}
-use Rattle.common.specs.Lists.{fourAt}
+use Rattle.common.specs.Helpers.{fourAt}
 use Rattle.common.proofs.Lists.{is-same, not-same}
 use Rattle.common.proofs.Fours.{four-more}
 use Rattle.common.proofs.same_bytes.Statement.{statement}
@@ -29,32 +29,11 @@ Inv-loop2 a b n i₀ i = SameBelow a b i
 abbrev μ-loop2 : tie.MeasureT-loop2
 μ-loop2 a b n i₀ i = length a - i
 
-returns : tie.Need-returns Inv-loop μ-loop Inv-loop2 μ-loop2
-returns c = sym (not-same _ _ (λ e. c .if1 .taken (ap length e)))
-
-loop-holds : tie.Need-loop-holds Inv-loop μ-loop Inv-loop2 μ-loop2
-loop-holds c = (omega arith, c .if1 .left, below-none _)
-
-sub-loop : tie.Need-sub-loop Inv-loop μ-loop Inv-loop2 μ-loop2
-sub-loop c = omega arith
-
-four-at-requires : tie.Need-four-at-requires Inv-loop μ-loop Inv-loop2 μ-loop2
-four-at-requires c κs = omega arith
-
-four-at-requires-2 : tie.Need-four-at-requires-2 Inv-loop μ-loop Inv-loop2 μ-loop2
-four-at-requires-2 c κs = omega arith
-
 returns-2 : tie.Need-returns-2 Inv-loop μ-loop Inv-loop2 μ-loop2
 returns-2 c =
     let f = c .before .before in
     let i = f .before .before .loop .i in
     sym (not-same _ _ (λ e. c .if2 .taken (f .four-at .ensures ∙ (ap (fourAt i) e ∙ sym (c .before .four-at2 .ensures)))))
-
-add-i : tie.Need-add-i Inv-loop μ-loop Inv-loop2 μ-loop2
-add-i c = omega arith
-
-loop-less : tie.Need-loop-less Inv-loop μ-loop Inv-loop2 μ-loop2
-loop-less c = omega arith
 
 loop-again : tie.Need-loop-again Inv-loop μ-loop Inv-loop2 μ-loop2
 loop-again c =
@@ -66,24 +45,6 @@ loop-again c =
     let bytes-b : (k : ℕ) → getD (x .b .now) k 0 < 256 = λ k. omega (arith, s .shared-slice-known2 .given k) in
     let e = sym (f .four-at .ensures) ∙ (c .if2 .left ∙ c .before .four-at2 .ensures) in
     (omega arith, l .loop .inv .1, four-more (x .a .now) (x .b .now) bytes-a bytes-b (l .loop .i) (l .loop .inv .2) e)
-
-loop2-holds : tie.Need-loop2-holds Inv-loop μ-loop Inv-loop2 μ-loop2
-loop2-holds c = c .before .loop .inv
-
-shared-slice-read-if3 : tie.Need-shared-slice-read-if3 Inv-loop μ-loop Inv-loop2 μ-loop2
-shared-slice-read-if3 c = search needs
-
-shared-slice-read-if3-2 : tie.Need-shared-slice-read-if3-2 Inv-loop μ-loop Inv-loop2 μ-loop2
-shared-slice-read-if3-2 c = omega arith
-
-returns-3 : tie.Need-returns-3 Inv-loop μ-loop Inv-loop2 μ-loop2
-returns-3 c = sym (not-same _ _ (λ e. c .if3 .taken (rw e)))
-
-add-i-2 : tie.Need-add-i-2 Inv-loop μ-loop Inv-loop2 μ-loop2
-add-i-2 c = search needs
-
-loop2-less : tie.Need-loop2-less Inv-loop μ-loop Inv-loop2 μ-loop2
-loop2-less c = search needs
 
 loop2-again : tie.Need-loop2-again Inv-loop μ-loop Inv-loop2 μ-loop2
 loop2-again c =
@@ -97,26 +58,8 @@ returns-4 c =
 
 pub same-bytes-spec : {M : Type 1} → statement M
 same-bytes-spec =
-    tie.close
-    (tie.spec
-    Inv-loop
-    μ-loop
-    Inv-loop2
-    μ-loop2
-    returns
-    loop-holds
-    sub-loop
-    four-at-requires
-    four-at-requires-2
-    returns-2
-    add-i
-    loop-less
-    loop-again
-    loop2-holds
-    shared-slice-read-if3
-    shared-slice-read-if3-2
-    returns-3
-    add-i-2
-    loop2-less
-    loop2-again
-    returns-4)
+    tie.close (tie.spec
+    Inv-loop μ-loop Inv-loop2 μ-loop2 (λ c. sym (not-same _ _ (λ e. c .if1 .taken (ap length e)))) (λ c. (omega arith, c .if1 .left, below-none _))
+    (λ c. omega arith) (λ c κs. omega arith) (λ c κs. omega arith) returns-2 (λ c. omega arith) (λ c. omega arith) loop-again
+    (λ c. c .before .loop .inv) (λ c. search needs) (λ c. omega arith) (λ c. sym (not-same _ _ (λ e. c .if3 .taken (rw e)))) (λ c. search needs)
+    (λ c. search needs) loop2-again returns-4)

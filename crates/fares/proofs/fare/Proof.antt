@@ -6,26 +6,11 @@ use borrow.Author.Needs.{needs}
 use Rattle.fares.proofs.fare.Statement.{statement}
 use Rattle.fares.proofs.fare.Tie as tie
 
-verdict-requires : tie.Need-verdict-requires
-verdict-requires c κs = search needs
-
-enum-known-judged : tie.Need-enum-known-judged
-enum-known-judged c = search needs
-
-refused-requires : tie.Need-refused-requires
-refused-requires c κs = search needs
-
-enum-told : tie.Need-enum-told
-enum-told c = search needs
-
-price-requires : tie.Need-price-requires
-price-requires c κs = search needs
-
 returns : tie.Need-returns
 returns c =
     let k = c .before in
     let v = k .before .before .before in
-    c .refused .ensures ∙ sym (verdict-first _ _ _ _ _ (sym (v .verdict .ensures) ∙ k .before .judged .given .1))
+    c .refused .ensures ∙ sym (verdict-first _ _ _ (sym (v .verdict .ensures) ∙ k .before .judged .given .1))
 
 returns-2 : tie.Need-returns-2
 returns-2 c =
@@ -34,12 +19,5 @@ returns-2 c =
 
 pub fare-spec : {M : Type 1} → statement M
 fare-spec =
-    tie.close
-    (tie.spec
-    verdict-requires
-    enum-known-judged
-    refused-requires
-    enum-told
-    price-requires
-    returns
-    returns-2)
+    tie.close (tie.spec
+    (λ c κs. search needs) (λ c. search needs) (λ c κs. search needs) (λ c. search needs) (λ c κs. search needs) returns returns-2)

@@ -13,7 +13,7 @@ use lib.Seq.{take-all}
 use borrow.Author.Needs.{needs}
 use borrow.Author.Tests.{lt-ltb, le-ltb}
 use Rattle.common.specs.Lists.{sum}
-use Rattle.common.specs.Checks.{clean, fault, firstFault}
+use Rattle.common.specs.Checks.{refuse, clean, fault, firstFault}
 use Rattle.common.proofs.Tests.{fails, holds}
 use Rattle.common.proofs.Lists.{first-length, first-at}
 use Rattle.common.proofs.Sums.{sum-padded, sum-next, fill-next}
@@ -26,7 +26,7 @@ use Rattle.common.proofs.Checks.{orElse}
 use Rattle.fares.specs.declared.Pricing.the-variants.{Priced}
 use Rattle.fares.specs.declared.Question.{Question}
 use Rattle.fares.specs.declared.Leg.{Leg}
-use Rattle.fares.proofs.FareLaws.{Asked, asked, is-refused, is-part, limits-fail, left, left-start, left-step, left-end, by-leg, all-well, part-small, sum-of-parts}
+use Rattle.fares.proofs.FareLaws.{Asked, asked, is-refused, is-part, limits-fail, left, left-start, left-step, left-end, no-fare, all-well, part-small, sum-of-parts}
 use Rattle.fares.proofs.price.Statement.{statement}
 use Rattle.fares.proofs.price.Tie as tie
 
@@ -106,22 +106,15 @@ all-sum c =
     l .loop .inv .2 ∙ (ap (λ L. sum (map (partOf (records l) (asking l)) L)) (passed c) ∙ sym (sum-padded (map (partOf (records l) (asking l)) (legsOf (asking l))) (8 - asking l .count)))
 
 found : (c : tie.After-loop Inv-loop μ-loop) → let l = c .before in
-    firstFault (priceChecks (records l) (asking l)) ≡ cond (ltb mostFare (sum (partsOf (records l) (asking l)))) (fault 16 0 0) clean
+    firstFault (priceChecks (records l) (asking l)) ≡ cond (ltb mostFare (sum (partsOf (records l) (asking l)))) (fault (refuse 16 0 0)) clean
 found c =
     let l = c .before in
     l .loop .inv .3 ∙ left-end (records l) (asking l) (l .loop .k) (omega (arith, as-many l, c .loop-test .left))
 
-in-limits-requires : tie.Need-in-limits-requires Inv-loop μ-loop
-in-limits-requires c κs = search needs
-
-refused-requires : tie.Need-refused-requires Inv-loop μ-loop
-refused-requires c κs = search needs
-
 returns : tie.Need-returns Inv-loop μ-loop
-returns c = c .refused .ensures ∙ sym (limits-fail _ _ (fails (c .before .before .in-limits .result) (c .before .if1 .taken) (c .before .before .in-limits .ensures)))
-
-cast-count : tie.Need-cast-count Inv-loop μ-loop
-cast-count c = search needs
+returns c =
+    let d = c .before .before in
+    c .refused .ensures ∙ no-fare _ _ (limits-fail _ _ (fails (d .before .in-limits .result) (d .if1 .taken) (d .before .in-limits .ensures))) (c .before .refuse .ensures)
 
 loop-holds : tie.Need-loop-holds Inv-loop μ-loop
 unfolding sum
@@ -129,23 +122,11 @@ loop-holds c =
     let a = c .before .before .before .before .before .args in
     (omega arith, refl, refl, left-start (recordsOf (a .bundle .now)) (a .q) (limits (c .before .before)))
 
-mul-leg : tie.Need-mul-leg Inv-loop μ-loop
-mul-leg c = omega (arith, known (c .before) .few)
-
-array-copy-out-leg : tie.Need-array-copy-out-leg Inv-loop μ-loop
-array-copy-out-leg c = omega (arith, known (c .before) .few)
-
 price-leg-requires : tie.Need-price-leg-requires Inv-loop μ-loop
 price-leg-requires c κs =
     let l = c .before .before in
     let f : getD (asking l .legs) (l .loop .k) noLeg .fare ≤ 999999 = rw (same-leg (c .before)) (known l .fares (l .loop .k) (below (c .before))) in
     (f, known l .persons)
-
-enum-known-answer : tie.Need-enum-known-answer Inv-loop μ-loop
-enum-known-answer c = search needs
-
-refused-requires-2 : tie.Need-refused-requires-2 Inv-loop μ-loop
-refused-requires-2 c κs = search needs
 
 returns-2 : tie.Need-returns-2 Inv-loop μ-loop
 returns-2 c =
@@ -154,20 +135,8 @@ returns-2 c =
     let l = t .before in
     let R = records l in
     let q = asking l in
-    let f = is-refused (firstFault (legChecks R q (l .loop .k) (leg-of l))) (partOf R q (leg-of l)) _ _ _ (sym (told (k .before .before .before)) ∙ k .before .answer .given .1) in
-    c .refused2 .ensures ∙ sym (by-leg R q _ _ _ (l .loop .inv .3 ∙ (left-step R q (l .loop .k) (below t) ∙ ap (λ x. orElse x (left R q (l .loop .k + 1))) f)))
-
-enum-known-answer-2 : tie.Need-enum-known-answer-2 Inv-loop μ-loop
-enum-known-answer-2 c = search needs
-
-mul-parts : tie.Need-mul-parts Inv-loop μ-loop
-mul-parts c = omega (arith, known (c .before .before .before .before .before .before) .few)
-
-array-write-parts : tie.Need-array-write-parts Inv-loop μ-loop
-array-write-parts c = omega (arith, known (c .before .before .before .before .before .before) .few)
-
-cast-fare : tie.Need-cast-fare Inv-loop μ-loop
-cast-fare c = search needs
+    let f = is-refused (firstFault (legChecks R q (l .loop .k) (leg-of l))) (partOf R q (leg-of l)) _ (sym (told (k .before .before .before)) ∙ k .before .answer .given .1) in
+    c .refused2 .ensures ∙ no-fare R q (l .loop .inv .3 ∙ (left-step R q (l .loop .k) (below t) ∙ ap (λ x. orElse x (left R q (l .loop .k + 1))) f)) refl
 
 add-fare : tie.Need-add-fare Inv-loop μ-loop
 add-fare c =
@@ -185,12 +154,6 @@ add-fare c =
       mul-le-mul-right partBound k,
     )
 
-add-k : tie.Need-add-k Inv-loop μ-loop
-add-k c = omega arith
-
-loop-less : tie.Need-loop-less Inv-loop μ-loop
-loop-less c = omega arith
-
 loop-again : tie.Need-loop-again Inv-loop μ-loop
 loop-again c =
     let t = c .before .before .before .before .before in
@@ -205,14 +168,13 @@ loop-again c =
       l .loop .inv .3 ∙ (left-step R q (l .loop .k) (below t) ∙ rw (d .0)),
     )
 
-refused-requires-3 : tie.Need-refused-requires-3 Inv-loop μ-loop
-refused-requires-3 c κs = search needs
-
 returns-3 : tie.Need-returns-3 Inv-loop μ-loop
 returns-3 c =
-    let e = c .before .before in
+    let d = c .before .before in
+    let e = d .before in
     let l = e .before in
-    c .refused3 .ensures ∙ sym (by-leg (records l) (asking l) 16 0 0 (found e ∙ rw (lt-ltb mostFare (sum (partsOf (records l) (asking l))) (omega (arith, all-sum e, c .before .if2 .taken)))))
+    c .refused3 .ensures
+    ∙ no-fare (records l) (asking l) (found e ∙ rw (lt-ltb mostFare (sum (partsOf (records l) (asking l))) (omega (arith, all-sum e, d .if2 .taken)))) (c .before .refuse2 .ensures)
 
 returns-4 : tie.Need-returns-4 Inv-loop μ-loop
 returns-4 c =
@@ -223,29 +185,9 @@ returns-4 c =
 
 pub price-spec : {M : Type 1} → statement M
 price-spec =
-    tie.close
-    (tie.spec
-    Inv-loop
-    μ-loop
-    in-limits-requires
-    refused-requires
-    returns
-    cast-count
-    loop-holds
-    mul-leg
-    array-copy-out-leg
-    price-leg-requires
-    enum-known-answer
-    refused-requires-2
-    returns-2
-    enum-known-answer-2
-    mul-parts
-    array-write-parts
-    cast-fare
-    add-fare
-    add-k
-    loop-less
-    loop-again
-    refused-requires-3
-    returns-3
-    returns-4)
+    tie.close (tie.spec
+    Inv-loop μ-loop (λ c κs. search needs) (λ c κs. search needs) (λ c κs. search needs) returns (λ c. search needs) loop-holds
+    (λ c. omega (arith, known (c .before) .few)) (λ c. omega (arith, known (c .before) .few)) price-leg-requires (λ c. search needs)
+    (λ c κs. search needs) returns-2 (λ c. search needs) (λ c. omega (arith, known (c .before .before .before .before .before .before) .few))
+    (λ c. omega (arith, known (c .before .before .before .before .before .before) .few)) (λ c. search needs) add-fare (λ c. omega arith)
+    (λ c. omega arith) loop-again (λ c κs. search needs) (λ c κs. search needs) returns-3 returns-4)

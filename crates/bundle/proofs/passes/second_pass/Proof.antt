@@ -12,9 +12,11 @@ use Rattle.common.specs.Checks.{firstFault}
 use Rattle.common.specs.Least.{least}
 use Rattle.common.proofs.Least.{start as none-yet, more, hit}
 use Rattle.common.proofs.Parts.{rest-all}
+use Rattle.common.proofs.Checks.{as-found}
 use Rattle.bundle.specs.Records.{Rec, rec, noRec, stepOf, recordsOf}
 use Rattle.bundle.specs.Keys.{clash, otherTransferor, earlierOf}
 use Rattle.bundle.specs.Verdict.{secondPass}
+use Rattle.bundle.specs.declared.Judgement.the-variants.{Refused}
 use Rattle.bundle.specs.declared.walk.Step.the-variants.{Whole}
 use Rattle.bundle.proofs.Here.{Here, bodyOf, here-start, here-cons, here-below, here-at, here-next, room, step-lent, over-lent, over-nil, over-count, fits-lent}
 use Rattle.bundle.proofs.PassLaws.{secondFrom, second-start, second-end, other-fault, key-fault, link-fault, record-passes, compared}
@@ -129,82 +131,6 @@ apart c =
     let e : l .loop .j ≡ place (record-of l) .records .i = omega arith in
     rw e at (l .loop .inv .2)
 
-first-transferor-requires :
-    tie.Need-first-transferor-requires Inv-loop μ-loop Inv-records μ-records
-first-transferor-requires c κs = search needs
-
-records-holds : tie.Need-records-holds Inv-loop μ-loop Inv-records μ-records
-records-holds c = (here-start _, second-start _)
-
-sub-rest : tie.Need-sub-rest Inv-loop μ-loop Inv-records μ-records
-sub-rest c = omega (arith, c .records .inv .0 .inside)
-
-part-rest-start : tie.Need-part-rest-start Inv-loop μ-loop Inv-records μ-records
-part-rest-start c = search needs
-
-part-rest-end : tie.Need-part-rest-end Inv-loop μ-loop Inv-records μ-records
-part-rest-end c = search needs
-
-first-step-requires : tie.Need-first-step-requires Inv-loop μ-loop Inv-records μ-records
-first-step-requires c κs = search needs
-
-enum-known-here : tie.Need-enum-known-here Inv-loop μ-loop Inv-records μ-records
-enum-known-here c = search needs
-
-sub-r : tie.Need-sub-r Inv-loop μ-loop Inv-records μ-records
-sub-r c = omega (arith, lies c)
-
-part-r-start : tie.Need-part-r-start Inv-loop μ-loop Inv-records μ-records
-part-r-start c = omega (arith, lies c)
-
-part-r-end : tie.Need-part-r-end Inv-loop μ-loop Inv-records μ-records
-part-r-end c = fits-lent (bundle-of (place c)) (place c .records .at) (next c) (lies c .2)
-
-field-requires : tie.Need-field-requires Inv-loop μ-loop Inv-records μ-records
-field-requires c κs = search needs
-
-same-bytes-requires : tie.Need-same-bytes-requires Inv-loop μ-loop Inv-records μ-records
-same-bytes-requires c κs = search needs
-
-loop-holds : tie.Need-loop-holds Inv-loop μ-loop Inv-records μ-records
-loop-holds c = (here-start _, omega arith, none-yet _)
-
-sub-before : tie.Need-sub-before Inv-loop μ-loop Inv-records μ-records
-sub-before c = omega (arith, c .before .loop .inv .0 .inside)
-
-part-before-start : tie.Need-part-before-start Inv-loop μ-loop Inv-records μ-records
-part-before-start c = search needs
-
-part-before-end : tie.Need-part-before-end Inv-loop μ-loop Inv-records μ-records
-part-before-end c = search needs
-
-first-step-requires-2 : tie.Need-first-step-requires-2 Inv-loop μ-loop Inv-records μ-records
-first-step-requires-2 c κs = search needs
-
-enum-known-there : tie.Need-enum-known-there Inv-loop μ-loop Inv-records μ-records
-enum-known-there c = search needs
-
-sub-clashes : tie.Need-sub-clashes Inv-loop μ-loop Inv-records μ-records
-sub-clashes c = omega (arith, lies-2 c)
-
-part-clashes-start : tie.Need-part-clashes-start Inv-loop μ-loop Inv-records μ-records
-part-clashes-start c = omega (arith, lies-2 c)
-
-part-clashes-end : tie.Need-part-clashes-end Inv-loop μ-loop Inv-records μ-records
-part-clashes-end c = fits-lent (bundle-of (place (record-of (inner c)))) (inner c .loop .p) (next-2 c) (lies-2 c .2)
-
-clashes-requires : tie.Need-clashes-requires Inv-loop μ-loop Inv-records μ-records
-clashes-requires c κs = search needs
-
-add-p : tie.Need-add-p Inv-loop μ-loop Inv-records μ-records
-add-p c = omega (arith, lies-2 (c .before .before .before))
-
-add-j : tie.Need-add-j Inv-loop μ-loop Inv-records μ-records
-add-j c = omega (arith, lies-2 (c .before .before .before), inner (c .before .before .before) .loop .inv .0 .counted)
-
-loop-less : tie.Need-loop-less Inv-loop μ-loop Inv-records μ-records
-loop-less c = omega arith
-
 loop-again : tie.Need-loop-again Inv-loop μ-loop Inv-records μ-records
 loop-again c =
     let k = c .before .before .before in
@@ -215,20 +141,8 @@ loop-again c =
       more _ (l .loop .j) (l .loop .inv .2) (sym (clashing (c .before)) ∙ c .if2 .left),
     )
 
-missing-link-requires : tie.Need-missing-link-requires Inv-loop μ-loop Inv-records μ-records
-missing-link-requires c κs = search needs
-
-link-at-requires : tie.Need-link-at-requires Inv-loop μ-loop Inv-records μ-records
-link-at-requires c κs = search needs
-
-add-at : tie.Need-add-at Inv-loop μ-loop Inv-records μ-records
-add-at c = omega (arith, lies (record-of (c .before .before .before)))
-
 add-i : tie.Need-add-i Inv-loop μ-loop Inv-records μ-records
 add-i c = omega (arith, lies (record-of (c .before .before .before)), place (record-of (c .before .before .before)) .records .inv .0 .counted)
-
-records-less : tie.Need-records-less Inv-loop μ-loop Inv-records μ-records
-records-less c = omega (arith, lies (record-of (c .before .before .before)))
 
 records-again : tie.Need-records-again Inv-loop μ-loop Inv-records μ-records
 records-again c =
@@ -250,9 +164,10 @@ returns c =
 
 returns-2 : tie.Need-returns-2 Inv-loop μ-loop Inv-records μ-records
 returns-2 c =
-    let k = c .before .before .before .before in
+    let d = c .before in
+    let k = d .before .before .before .before in
     let o = place k in
-    sym (rw (o .records .inv .1 ∙ other-fault _ (o .records .i) (lent k) (cons k) (transferor (c .before) ∙ c .if1 .taken)))
+    as-found Refused _ (o .records .inv .1 ∙ other-fault _ (o .records .i) (lent k) (cons k) (transferor (d .before) ∙ d .if1 .taken)) (c .refuse .ensures)
 
 returns-3 : tie.Need-returns-3 Inv-loop μ-loop Inv-records μ-records
 returns-3 c =
@@ -267,67 +182,38 @@ returns-3 c =
 returns-4 : tie.Need-returns-4 Inv-loop μ-loop Inv-records μ-records
 unfolding earlierOf
 returns-4 c =
-    let turn = c .before .before .before .before .before .before .before .before in
+    let d = c .before in
+    let turn = d .before .before .before .before .before .before .before .before in
     let l = turn .before in
     let k = record-of l in
     let o = place k in
     let R = recordsOf (bundle-of o) in
-    let e : earlierOf R (o .records .i) (lent k) ≡ l .loop .j = hit _ (l .loop .j) (o .records .i) (l .loop .inv .2) (sym (clashing (c .before)) ∙ c .if2 .taken) (turn .loop-test .taken) in
+    let e : earlierOf R (o .records .i) (lent k) ≡ l .loop .j = hit _ (l .loop .j) (o .records .i) (l .loop .inv .2) (sym (clashing (d .before)) ∙ d .if2 .taken) (turn .loop-test .taken) in
     let q = key-fault R (o .records .i) (lent k) (cons k) (transferor (l .before .before) ∙ l .before .if1 .left) (rw e (turn .loop-test .taken)) in
-    sym (rw (o .records .inv .1 ∙ q, e))
+    as-found Refused _ (o .records .inv .1 ∙ q) (c .refuse2 .ensures ∙ rw e)
 
 returns-5 : tie.Need-returns-5 Inv-loop μ-loop Inv-records μ-records
 returns-5 c =
-    let m = c .before .before in
+    let d = c .before in
+    let m = d .before .before in
     let l = m .before .before in
     let k = record-of l in
     let o = place k in
     let t = transferor (l .before .before) ∙ l .before .if1 .left in
-    let q = link-fault _ (o .records .i) (lent k) (cons k) t (omega (arith, apart (m .before))) (rw (m .missing-link .ensures) at (c .before .if3 .taken)) in
-    sym (rw (o .records .inv .1 ∙ q, ← m .missing-link .ensures, ← c .link-at .ensures))
+    let q = link-fault _ (o .records .i) (lent k) (cons k) t (omega (arith, apart (m .before))) (rw (m .missing-link .ensures) at (d .before .if3 .taken)) in
+    as-found Refused _ (o .records .inv .1 ∙ q) (c .refuse3 .ensures ∙ rw (d .link-at .ensures, m .missing-link .ensures))
 
 pub second-pass-spec : {M : Type 1} → statement M
 second-pass-spec =
-    tie.close
-    (tie.spec
-    Inv-loop
-    μ-loop
-    Inv-records
-    μ-records
-    first-transferor-requires
-    records-holds
-    sub-rest
-    part-rest-start
-    part-rest-end
-    first-step-requires
-    enum-known-here
-    sub-r
-    part-r-start
-    part-r-end
-    field-requires
-    same-bytes-requires
-    loop-holds
-    sub-before
-    part-before-start
-    part-before-end
-    first-step-requires-2
-    enum-known-there
-    sub-clashes
-    part-clashes-start
-    part-clashes-end
-    clashes-requires
-    add-p
-    add-j
-    loop-less
-    loop-again
-    missing-link-requires
-    link-at-requires
-    add-at
-    add-i
-    records-less
-    records-again
-    returns
-    returns-2
-    returns-3
-    returns-4
-    returns-5)
+    tie.close (tie.spec
+    Inv-loop μ-loop Inv-records μ-records (λ c κs. search needs) (λ c. (here-start _, second-start _))
+    (λ c. omega (arith, c .records .inv .0 .inside)) (λ c. search needs) (λ c. search needs) (λ c κs. search needs) (λ c. search needs)
+    (λ c. omega (arith, lies c)) (λ c. omega (arith, lies c)) (λ c. fits-lent (bundle-of (place c)) (place c .records .at) (next c) (lies c .2))
+    (λ c κs. search needs) (λ c κs. search needs) (λ c κs. search needs) (λ c. (here-start _, omega arith, none-yet _))
+    (λ c. omega (arith, c .before .loop .inv .0 .inside)) (λ c. search needs) (λ c. search needs) (λ c κs. search needs) (λ c. search needs)
+    (λ c. omega (arith, lies-2 c)) (λ c. omega (arith, lies-2 c))
+    (λ c. fits-lent (bundle-of (place (record-of (inner c)))) (inner c .loop .p) (next-2 c) (lies-2 c .2)) (λ c κs. search needs)
+    (λ c κs. search needs) (λ c. omega (arith, lies-2 (c .before .before .before)))
+    (λ c. omega (arith, lies-2 (c .before .before .before), inner (c .before .before .before) .loop .inv .0 .counted)) (λ c. omega arith) loop-again
+    (λ c κs. search needs) (λ c κs. search needs) (λ c κs. search needs) (λ c. omega (arith, lies (record-of (c .before .before .before)))) add-i
+    (λ c. omega (arith, lies (record-of (c .before .before .before)))) records-again returns returns-2 returns-3 returns-4 returns-5)

@@ -18,20 +18,11 @@ returns : tie.Need-returns
 unfolding cardSteps reduceAll
 returns c = rw (eq-eqb _ _ (c .if1 .taken))
 
-byte-at-requires : tie.Need-byte-at-requires
-byte-at-requires c κs = search needs
-
 returns-2 : tie.Need-returns-2
 unfolding cardSteps reduceAll
 returns-2 c =
     let b = c .before in
     rw (ne-eqb _ _ (b .before .if1 .left), ← b .byte-at .ensures, ne-eqb _ _ (c .if2 .taken))
-
-choose-requires : tie.Need-choose-requires
-choose-requires c κs = search needs
-
-enum-known-chosen : tie.Need-enum-known-chosen
-enum-known-chosen c = search needs
 
 returns-3 : tie.Need-returns-3
 unfolding reduceAll
@@ -42,12 +33,6 @@ returns-3 c =
     let R = recordsOf (a .bundle .now) in
     let n = no-step R (choiceOf R AR (a .q .offer) (a .railway) (a .q .card) (a .q .day)) (not-at (a .bundle .now) (h .choose .result) (c .match .keys2) (h .choose .ensures)) in
     sym (ap (reduceAll (a .amount)) (card-steps R (a .q) (a .railway) (a .co .now) (b .before .if1 .left) (sym (b .byte-at .ensures) ∙ h .before .if2 .left) ∙ n))
-
-body-at-requires : tie.Need-body-at-requires
-body-at-requires c κs = search needs
-
-reduction-at-requires : tie.Need-reduction-at-requires
-reduction-at-requires c κs = search needs
 
 reduce-requires : tie.Need-reduce-requires
 reduce-requires c κs = (c .before .before .before .before .before .before .before .before .before .before .before .pre, rw (c .reduction-at .ensures) (factor-small 17 28 29 _))
@@ -67,15 +52,6 @@ returns-4 c =
 
 pub after-card-spec : {M : Type 1} → statement M
 after-card-spec =
-    tie.close
-    (tie.spec
-    returns
-    byte-at-requires
-    returns-2
-    choose-requires
-    enum-known-chosen
-    returns-3
-    body-at-requires
-    reduction-at-requires
-    reduce-requires
-    returns-4)
+    tie.close (tie.spec
+    returns (λ c κs. search needs) returns-2 (λ c κs. search needs) (λ c. search needs) returns-3 (λ c κs. search needs) (λ c κs. search needs)
+    reduce-requires returns-4)

@@ -16,19 +16,9 @@ asFlag e = record { field = e .0; position = e .1 }
 abbrev asEntry : Flag → Entry
 asEntry f = (f .field, f .position)
 
-returns : tie.Need-returns
-unfolding unreadFlags
-returns c = sym (List·getD-eq-default unreadFlags noFlag {n = c .before .args .k} (omega arith))
-
-mul-e : tie.Need-mul-e
-mul-e c = search needs
-
-array-copy-out-e : tie.Need-array-copy-out-e
-array-copy-out-e c = search needs
-
-returns-2 : tie.Need-returns-2
-unfolding unreadFlags
-returns-2 c = ap asFlag (List·getD-map asEntry unreadFlags (c .before .before .args .k) noFlag)
-
 pub flag-at-spec : {M : Type 1} → statement M
-flag-at-spec = tie.close (tie.spec returns mul-e array-copy-out-e returns-2)
+unfolding unreadFlags
+flag-at-spec =
+    tie.close (tie.spec
+    (λ c. sym (List·getD-eq-default unreadFlags noFlag {n = c .before .args .k} (omega arith))) (λ c. search needs) (λ c. search needs)
+    (λ c. ap asFlag (List·getD-map asEntry unreadFlags (c .before .before .args .k) noFlag)))

@@ -6,15 +6,9 @@ use borrow.Author.Needs.{needs}
 use Rattle.fares.proofs.legs.persons_fit.Statement.{statement}
 use Rattle.fares.proofs.legs.persons_fit.Tie as tie
 
-number-at-requires : tie.Need-number-at-requires
-number-at-requires c κs = search needs
-
 returns : tie.Need-returns
 unfolding personsFit
 returns c = rw (← c .before .number-at .ensures, lt-leb _ _ (c .if1 .taken))
-
-number-at-requires-2 : tie.Need-number-at-requires-2
-number-at-requires-2 c κs = search needs
 
 returns-2 : tie.Need-returns-2
 unfolding personsFit
@@ -32,4 +26,4 @@ returns-3 c =
 
 pub persons-fit-spec : {M : Type 1} → statement M
 persons-fit-spec =
-    tie.close (tie.spec number-at-requires returns number-at-requires-2 returns-2 returns-3)
+    tie.close (tie.spec (λ c κs. search needs) returns (λ c κs. search needs) returns-2 returns-3)

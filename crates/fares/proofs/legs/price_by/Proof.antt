@@ -1,7 +1,7 @@
 -- `fares::legs::price_by` meets its contract.
 -- Assumes nothing.
 use Prim.Native.Nat.{_≤_, _*_}
-use mathlib.Core.Path.{_≡_, ap}
+use mathlib.Core.Path.{_≡_, _∙_, ap}
 use native.Mathlib.Omega.{arith}
 use borrow.Author.Tests.{lt-ltb, le-ltb}
 use Rattle.common.specs.Checks.{firstFault}
@@ -9,7 +9,7 @@ use Rattle.common.proofs.Tests.{fails, holds}
 use Rattle.bundle.specs.Records.{recordsOf}
 use Rattle.fares.specs.Reductions.{partBound}
 use Rattle.fares.specs.Legs.{answerBy, partBy}
-use Rattle.fares.specs.declared.legs.Priced.the-variants.{Part}
+use Rattle.fares.specs.declared.legs.Priced.the-variants.{Part, Refused}
 use Rattle.fares.proofs.StepLaws.{factor-small, step-small}
 use Rattle.fares.proofs.LegLaws.{leg-small, part-by}
 use borrow.Author.Needs.{needs}
@@ -32,34 +32,20 @@ small c =
     let s = entry c in
     leg-small (recordsOf (s .args .bundle .now)) (s .args .q) (s .args .leg) (s .args .co .now) (s .pre .0) (s .pre .1)
 
-persons-fit-requires : tie.Need-persons-fit-requires
-persons-fit-requires c κs = search needs
-
 returns : tie.Need-returns
 unfolding answerBy firstFault
-returns c = rw (fails (c .before .persons-fit .result) (c .if1 .taken) (c .before .persons-fit .ensures))
-
-unread-flag-requires : tie.Need-unread-flag-requires
-unread-flag-requires c κs = search needs
-
-flag-at-requires : tie.Need-flag-at-requires
-flag-at-requires c κs = search needs
+returns c =
+    let d = c .before in
+    ap Refused (c .refuse .ensures) ∙ rw (fails (d .before .persons-fit .result) (d .if1 .taken) (d .before .persons-fit .ensures))
 
 returns-2 : tie.Need-returns-2
 unfolding answerBy firstFault
 returns-2 c =
-    let u = c .before .before in
+    let f = c .before in
+    let u = f .before .before in
     let e = u .before in
-    rw (holds (e .before .persons-fit .result) (e .if1 .left) (e .before .persons-fit .ensures), ← u .unread-flag .ensures, lt-ltb _ _ (c .before .if2 .taken), ← c .flag-at .ensures)
-
-cast-reduce : tie.Need-cast-reduce
-cast-reduce c = search needs
-
-reduction-at-requires : tie.Need-reduction-at-requires
-reduction-at-requires c κs = search needs
-
-reduce-requires : tie.Need-reduce-requires
-reduce-requires c κs = (omega arith, rw (c .reduction-at .ensures) (factor-small 128 134 135 _))
+    ap Refused (c .refuse2 .ensures)
+    ∙ rw (holds (e .before .persons-fit .result) (e .if1 .left) (e .before .persons-fit .ensures), ← u .unread-flag .ensures, lt-ltb _ _ (f .before .if2 .taken), ← f .flag-at .ensures)
 
 after-card-requires : tie.Need-after-card-requires
 after-card-requires c κs =
@@ -67,15 +53,6 @@ after-card-requires c κs =
     let r = c .before .reduction-at in
     let f : r .result .factor ≤ 999 = rw (r .ensures) (factor-small 128 134 135 (a .co .now)) in
     omega (arith, c .reduce .ensures, step-small (r .result) f (a .leg .fare), c .before .before .before .before .before .before .before .before .before .pre)
-
-cast-t13 : tie.Need-cast-t13
-cast-t13 c = search needs
-
-mul-t15 : tie.Need-mul-t15
-mul-t15 c = omega (arith, part c, small c)
-
-cast-t16 : tie.Need-cast-t16
-cast-t16 c = omega (arith, part c, small c)
 
 returns-3 : tie.Need-returns-3
 unfolding answerBy firstFault
@@ -87,18 +64,7 @@ returns-3 c =
 
 pub price-by-spec : {M : Type 1} → statement M
 price-by-spec =
-    tie.close
-    (tie.spec
-    persons-fit-requires
-    returns
-    unread-flag-requires
-    flag-at-requires
-    returns-2
-    cast-reduce
-    reduction-at-requires
-    reduce-requires
-    after-card-requires
-    cast-t13
-    mul-t15
-    cast-t16
-    returns-3)
+    tie.close (tie.spec
+    (λ c κs. search needs) (λ c κs. search needs) returns (λ c κs. search needs) (λ c κs. search needs) (λ c κs. search needs) returns-2
+    (λ c. search needs) (λ c κs. search needs) (λ c κs. (omega arith, rw (c .reduction-at .ensures) (factor-small 128 134 135 _)))
+    after-card-requires (λ c. search needs) (λ c. omega (arith, part c, small c)) (λ c. omega (arith, part c, small c)) returns-3)

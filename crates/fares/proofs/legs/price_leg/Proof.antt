@@ -2,45 +2,31 @@
 -- Assumes nothing.
 use mathlib.Core.Path.{sym, _∙_, ap}
 use Rattle.fares.proofs.LegLaws.{no-conditions, off-day, by-conditions}
+use Rattle.common.proofs.Checks.{as-found}
 use Rattle.bundle.specs.Records.{recordsOf}
 use Rattle.bundle.proofs.ChoiceLaws.{chosen-at, is-nothing, is-off-day}
 use Rattle.layout.specs.Tables.{CO}
 use Rattle.fares.specs.Legs.{conditionsFor, answerBy}
+use Rattle.fares.specs.declared.legs.Priced.the-variants.{Refused}
 use borrow.Author.Needs.{needs}
 use Rattle.fares.proofs.legs.price_leg.Statement.{statement}
 use Rattle.fares.proofs.legs.price_leg.Tie as tie
 
-choose-requires : tie.Need-choose-requires
-choose-requires c κs = search needs
-
-enum-told : tie.Need-enum-told
-enum-told c = search needs
-
-enum-told-2 : tie.Need-enum-told-2
-enum-told-2 c = search needs
-
-enum-known-chosen : tie.Need-enum-known-chosen
-enum-known-chosen c = search needs
-
-body-at-requires : tie.Need-body-at-requires
-body-at-requires c κs = search needs
-
-price-by-requires : tie.Need-price-by-requires
-price-by-requires c κs = search needs
-
 returns : tie.Need-returns
 returns c =
-    let h = c .before .before in
+    let h = c .before .before .before in
     let a = h .before .before .args in
     let R = recordsOf (a .bundle .now) in
-    sym (no-conditions R (a .q) (a .k) (a .leg) (is-nothing (a .bundle .now) (conditionsFor R (a .q) (a .leg)) (sym (h .choose .ensures) ∙ c .enum-told .given .1)))
+    let n = is-nothing (a .bundle .now) (conditionsFor R (a .q) (a .leg)) (sym (h .choose .ensures) ∙ c .before .enum-told .given .1) in
+    as-found Refused _ (no-conditions R (a .q) (a .k) (a .leg) n) (c .refuse .ensures)
 
 returns-2 : tie.Need-returns-2
 returns-2 c =
-    let h = c .before .before in
+    let h = c .before .before .before in
     let a = h .before .before .args in
     let R = recordsOf (a .bundle .now) in
-    sym (off-day R (a .q) (a .k) (a .leg) (is-off-day (a .bundle .now) (conditionsFor R (a .q) (a .leg)) (sym (h .choose .ensures) ∙ c .enum-told2 .given .1)))
+    let n = is-off-day (a .bundle .now) (conditionsFor R (a .q) (a .leg)) (sym (h .choose .ensures) ∙ c .before .enum-told2 .given .1) in
+    as-found Refused _ (off-day R (a .q) (a .k) (a .leg) n) (c .refuse2 .ensures)
 
 returns-3 : tie.Need-returns-3
 returns-3 c =
@@ -54,14 +40,6 @@ returns-3 c =
 
 pub price-leg-spec : {M : Type 1} → statement M
 price-leg-spec =
-    tie.close
-    (tie.spec
-    choose-requires
-    enum-told
-    enum-told-2
-    enum-known-chosen
-    body-at-requires
-    price-by-requires
-    returns
-    returns-2
-    returns-3)
+    tie.close (tie.spec
+    (λ c κs. search needs) (λ c. search needs) (λ c κs. search needs) (λ c. search needs) (λ c κs. search needs) (λ c. search needs)
+    (λ c κs. search needs) (λ c κs. search needs) returns returns-2 returns-3)

@@ -18,15 +18,6 @@ Inv-loop co k₀ k = (k ≤ flags) × (least (isSet co) k ≡ k)
 abbrev μ-loop : tie.MeasureT-loop
 μ-loop co k₀ k = flags - k
 
-loop-holds : tie.Need-loop-holds Inv-loop μ-loop
-loop-holds c = (omega arith, start _)
-
-flag-at-requires : tie.Need-flag-at-requires Inv-loop μ-loop
-flag-at-requires c κs = search needs
-
-byte-at-requires : tie.Need-byte-at-requires Inv-loop μ-loop
-byte-at-requires c κs = search needs
-
 returns : tie.Need-returns Inv-loop μ-loop
 unfolding unreadFlag
 returns c =
@@ -34,12 +25,6 @@ returns c =
     let b : isSet (l .before .before .args .co .now) (l .loop .k) ≡ true =
     rw (← c .before .before .flag-at .ensures, ← c .before .byte-at .ensures) (eq-eqb _ _ (c .if1 .taken)) in
     sym (hit (isSet (l .before .before .args .co .now)) (l .loop .k) flags (l .loop .inv .1) b (omega arith))
-
-add-k : tie.Need-add-k Inv-loop μ-loop
-add-k c = omega arith
-
-loop-less : tie.Need-loop-less Inv-loop μ-loop
-loop-less c = omega arith
 
 loop-again : tie.Need-loop-again Inv-loop μ-loop
 loop-again c =
@@ -57,15 +42,6 @@ returns-2 c =
 
 pub unread-flag-spec : {M : Type 1} → statement M
 unread-flag-spec =
-    tie.close
-    (tie.spec
-    Inv-loop
-    μ-loop
-    loop-holds
-    flag-at-requires
-    byte-at-requires
-    returns
-    add-k
-    loop-less
-    loop-again
-    returns-2)
+    tie.close (tie.spec
+    Inv-loop μ-loop (λ c. (omega arith, start _)) (λ c κs. search needs) (λ c κs. search needs) returns (λ c. omega arith) (λ c. omega arith)
+    loop-again returns-2)

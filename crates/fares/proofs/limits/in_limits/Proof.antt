@@ -28,29 +28,17 @@ card-in c = holds (c .before .is-between3 .result) (c .if4 .left) (c .before .is
 count-in : (c : tie.Else5) → between 1 8 (c .before .before .before .before .before .before .before .before .before .before .args .q .count) ≡ true
 count-in c = holds (c .before .is-between4 .result) (c .if5 .left) (c .before .is-between4 .ensures)
 
-is-between-requires : tie.Need-is-between-requires
-is-between-requires c κs = search needs
-
 returns : tie.Need-returns
 unfolding inLimits every
 returns c = rw (fails (c .before .is-between .result) (c .if1 .taken) (c .before .is-between .ensures))
-
-is-day-requires : tie.Need-is-day-requires
-is-day-requires c κs = search needs
 
 returns-2 : tie.Need-returns-2
 unfolding inLimits every
 returns-2 c = rw (offer-in (c .before .before), fails (c .before .is-day .result) (c .if2 .taken) (c .before .is-day .ensures))
 
-is-between-requires-2 : tie.Need-is-between-requires-2
-is-between-requires-2 c κs = search needs
-
 returns-3 : tie.Need-returns-3
 unfolding inLimits every
 returns-3 c = rw (offer-in (c .before .before .before .before), day-in (c .before .before), fails (c .before .is-between2 .result) (c .if3 .taken) (c .before .is-between2 .ensures))
-
-is-between-requires-3 : tie.Need-is-between-requires-3
-is-between-requires-3 c κs = search needs
 
 returns-4 : tie.Need-returns-4
 unfolding inLimits every
@@ -58,18 +46,12 @@ returns-4 c =
     let p = c .before .before in
     rw (offer-in (p .before .before .before .before), day-in (p .before .before), persons-in p, fails (c .before .is-between3 .result) (c .if4 .taken) (c .before .is-between3 .ensures))
 
-is-between-requires-4 : tie.Need-is-between-requires-4
-is-between-requires-4 c κs = search needs
-
 returns-5 : tie.Need-returns-5
 unfolding inLimits every
 returns-5 c =
     let d = c .before .before in
     let p = d .before .before in
     rw (offer-in (p .before .before .before .before), day-in (p .before .before), persons-in p, card-in d, fails (c .before .is-between4 .result) (c .if5 .taken) (c .before .is-between4 .ensures))
-
-cast-legs-in-limits : tie.Need-cast-legs-in-limits
-cast-legs-in-limits c = search needs
 
 legs-in-limits-requires : tie.Need-legs-in-limits-requires
 legs-in-limits-requires c κs = let n = c .before .before .before .before .before .before .before .before .before .before .before .before .args .q .count in
@@ -85,18 +67,6 @@ returns-6 c =
 
 pub in-limits-spec : {M : Type 1} → statement M
 in-limits-spec =
-    tie.close
-    (tie.spec
-    is-between-requires
-    returns
-    is-day-requires
-    returns-2
-    is-between-requires-2
-    returns-3
-    is-between-requires-3
-    returns-4
-    is-between-requires-4
-    returns-5
-    cast-legs-in-limits
-    legs-in-limits-requires
-    returns-6)
+    tie.close (tie.spec
+    (λ c κs. search needs) returns (λ c κs. search needs) returns-2 (λ c κs. search needs) returns-3 (λ c κs. search needs) returns-4
+    (λ c κs. search needs) returns-5 (λ c. search needs) legs-in-limits-requires returns-6)

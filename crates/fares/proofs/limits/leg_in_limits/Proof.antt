@@ -5,14 +5,10 @@ use borrow.Author.Needs.{needs}
 use Rattle.fares.proofs.limits.leg_in_limits.Statement.{statement}
 use Rattle.fares.proofs.limits.leg_in_limits.Tie as tie
 
-is-railway-requires : tie.Need-is-railway-requires
-is-railway-requires c κs = search needs
-
-returns : tie.Need-returns
-returns c = rw (fails (c .before .is-railway .result) (c .if1 .taken) (c .before .is-railway .ensures))
-
 returns-2 : tie.Need-returns-2
 returns-2 c = rw (holds (c .before .before .is-railway .result) (c .before .if1 .left) (c .before .before .is-railway .ensures))
 
 pub leg-in-limits-spec : {M : Type 1} → statement M
-leg-in-limits-spec = tie.close (tie.spec is-railway-requires returns returns-2)
+leg-in-limits-spec =
+    tie.close (tie.spec
+    (λ c κs. search needs) (λ c. rw (fails (c .before .is-railway .result) (c .if1 .taken) (c .before .is-railway .ensures))) returns-2)

@@ -32,26 +32,8 @@ head c =
     l .loop .inv .1
     ∙ (every-step legInLimits (firstOf noLeg n legs) (l .loop .k) noLeg (rw first-length t) ∙ rw (first-at noLeg n legs (l .loop .k) t))
 
-loop-holds : tie.Need-loop-holds Inv-loop μ-loop
-loop-holds c = (omega arith, refl)
-
-mul-leg : tie.Need-mul-leg Inv-loop μ-loop
-mul-leg c = omega arith
-
-array-copy-out-leg : tie.Need-array-copy-out-leg Inv-loop μ-loop
-array-copy-out-leg c = omega arith
-
-leg-in-limits-requires : tie.Need-leg-in-limits-requires Inv-loop μ-loop
-leg-in-limits-requires c κs = search needs
-
 returns : tie.Need-returns Inv-loop μ-loop
 returns c = sym (head (c .before) ∙ rw (fails (c .before .leg-in-limits .result) (c .if1 .taken) (c .before .leg-in-limits .ensures)))
-
-add-k : tie.Need-add-k Inv-loop μ-loop
-add-k c = omega arith
-
-loop-less : tie.Need-loop-less Inv-loop μ-loop
-loop-less c = omega arith
 
 loop-again : tie.Need-loop-again Inv-loop μ-loop
 loop-again c = (omega arith, head (c .before) ∙ rw (holds (c .before .leg-in-limits .result) (c .if1 .left) (c .before .leg-in-limits .ensures)))
@@ -63,16 +45,6 @@ returns-2 c =
 
 pub legs-in-limits-spec : {M : Type 1} → statement M
 legs-in-limits-spec =
-    tie.close
-    (tie.spec
-    Inv-loop
-    μ-loop
-    loop-holds
-    mul-leg
-    array-copy-out-leg
-    leg-in-limits-requires
-    returns
-    add-k
-    loop-less
-    loop-again
-    returns-2)
+    tie.close (tie.spec
+    Inv-loop μ-loop (λ c. (omega arith, refl)) (λ c. omega arith) (λ c. omega arith) (λ c κs. search needs) returns (λ c. omega arith)
+    (λ c. omega arith) loop-again returns-2)

@@ -8,21 +8,14 @@ use borrow.Author.Needs.{needs}
 use Rattle.fares.proofs.reductions.reduce.Statement.{statement}
 use Rattle.fares.proofs.reductions.reduce.Tie as tie
 
-kept-requires : tie.Need-kept-requires
-kept-requires c κs = search needs
-
 mul-round : tie.Need-mul-round
 mul-round c = let k : c .kept .result ≤ 100000 = omega (arith, c .kept .ensures) in omega (arith, mul-le-mul (c .before .pre .0) k)
-
-cast-round : tie.Need-cast-round
-cast-round c = search needs
 
 round-requires : tie.Need-round-requires
 round-requires c κs = let d = c .before in let k : d .kept .result ≤ 100000 = omega (arith, d .kept .ensures) in (omega (arith, mul-le-mul (d .before .pre .0) k), d .before .pre .1)
 
-returns : tie.Need-returns
-unfolding reduceBy
-returns c = rw (c .round .ensures, c .before .before .kept .ensures)
-
 pub reduce-spec : {M : Type 1} → statement M
-reduce-spec = tie.close (tie.spec kept-requires mul-round cast-round round-requires returns)
+unfolding reduceBy
+reduce-spec =
+    tie.close (tie.spec
+    (λ c κs. search needs) mul-round (λ c. search needs) round-requires (λ c. rw (c .round .ensures, c .before .before .kept .ensures)))

@@ -6,48 +6,11 @@ use borrow.Author.Needs.{needs}
 use Rattle.fares.proofs.rounding.round.Statement.{statement}
 use Rattle.fares.proofs.rounding.round.Tie as tie
 
-round-up-requires : tie.Need-round-up-requires
-round-up-requires c κs = search needs
-
-round-down-requires : tie.Need-round-down-requires
-round-down-requires c κs = search needs
-
-round-near-requires : tie.Need-round-near-requires
-round-near-requires c κs = search needs
-
-round-near-requires-2 : tie.Need-round-near-requires-2
-round-near-requires-2 c κs = search needs
-
-returns : tie.Need-returns
-unfolding rounded
-returns c = rw (c .before .match .keys1) (c .round-up .ensures)
-
-returns-2 : tie.Need-returns-2
-unfolding rounded
-returns-2 c = rw (c .before .match .keys2) (c .round-down .ensures)
-
-returns-3 : tie.Need-returns-3
-unfolding rounded
-returns-3 c = rw (c .before .match .keys3) (c .round-near .ensures)
-
-returns-4 : tie.Need-returns-4
-unfolding rounded
-returns-4 c = rw (c .before .match .keys4) (c .round-near2 .ensures)
-
-returns-5 : tie.Need-returns-5
-unfolding rounded
-returns-5 c = rw (ne-eqb _ _ (c .match .rest .0 .0 .0 .1), ne-eqb _ _ (c .match .rest .0 .0 .1), ne-eqb _ _ (c .match .rest .0 .1), ne-eqb _ _ (c .match .rest .1))
-
 pub round-spec : {M : Type 1} → statement M
+unfolding rounded
 round-spec =
-    tie.close
-    (tie.spec
-    round-up-requires
-    round-down-requires
-    round-near-requires
-    round-near-requires-2
-    returns
-    returns-2
-    returns-3
-    returns-4
-    returns-5)
+    tie.close (tie.spec
+    (λ c κs. search needs) (λ c κs. search needs) (λ c κs. search needs) (λ c κs. search needs)
+    (λ c. rw (c .before .match .keys1) (c .round-up .ensures)) (λ c. rw (c .before .match .keys2) (c .round-down .ensures))
+    (λ c. rw (c .before .match .keys3) (c .round-near .ensures)) (λ c. rw (c .before .match .keys4) (c .round-near2 .ensures))
+    (λ c. rw (ne-eqb _ _ (c .match .rest .0 .0 .0 .1), ne-eqb _ _ (c .match .rest .0 .0 .1), ne-eqb _ _ (c .match .rest .0 .1), ne-eqb _ _ (c .match .rest .1))))

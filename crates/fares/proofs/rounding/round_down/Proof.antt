@@ -9,22 +9,9 @@ use borrow.Author.Needs.{needs}
 use Rattle.fares.proofs.rounding.round_down.Statement.{statement}
 use Rattle.fares.proofs.rounding.round_down.Tie as tie
 
-returns : tie.Need-returns
-unfolding downwards
-returns c = rw (c .if1 .taken) (sym (mul-zero _))
-
-mul-step : tie.Need-mul-step
-mul-step c = search needs
-
-div-result : tie.Need-div-result
-div-result c = search needs
-
-mul-result : tie.Need-mul-result
-mul-result c = record { fits = quotient-fits _ _ _ (omega arith) (omega arith) }
-
-returns-2 : tie.Need-returns-2
-unfolding downwards
-returns-2 c = refl
-
 pub round-down-spec : {M : Type 1} → statement M
-round-down-spec = tie.close (tie.spec returns mul-step div-result mul-result returns-2)
+unfolding downwards
+round-down-spec =
+    tie.close (tie.spec
+    (λ c. rw (c .if1 .taken) (sym (mul-zero _))) (λ c. search needs) (λ c. search needs)
+    (λ c. record { fits = quotient-fits _ _ _ (omega arith) (omega arith) }) (λ c. refl))
