@@ -7,15 +7,15 @@ use mathlib.Core.List.{List, [], _∷_}
 use native.Mathlib.Omega.{arith}
 use native.Mathlib.Nat.{add-zero}
 use native.Mathlib.Numerals.{add-one}
-use lib.ListN.{length, getD, take, drop, length-drop, drop-of-length-le}
+use lib.ListN.{length, getD, drop, length-drop, drop-of-length-le}
 use lib.Seq.{drop-drop, getD-drop}
-use Rattle.bundle.specs.Records.{rec, noRec, stepOf, recordsFrom, restFrom, recordsOf, restOf, placesFrom, placesOf, bodyAt}
+use Rattle.bundle.specs.Records.{rec, noRec, stepOf, between, recordsFrom, restFrom, recordsOf, restOf}
+use Rattle.bundle.specs.Helpers.{moved, stepAt, placesFrom, placesOf, bodyAt}
 use types.Run.{OneOf}
 use denote.Enum.Declared.{tagOf}
 use Rattle.bundle.proofs.walk.Step.{the-type}
 use Rattle.bundle.specs.declared.walk.Step.{Step}
 use Rattle.bundle.specs.declared.walk.Step.the-variants.{Unknown, Short, Whole}
-use Rattle.common.proofs.Parts.{rest-all}
 use Rattle.bundle.proofs.Steps.{Lies, whole-lies, nothing-there}
 
 -- at the byte p of the bundle s the record starts that is counted j, or the records end
@@ -43,12 +43,8 @@ here-start s =
       places = refl;
     }
 
--- the bytes of a record at the start of others
-abbrev pub bodyOf : ℕ → ℕ → List ℕ → List ℕ
-bodyOf start next s = take (next - start) (drop start s)
-
 records-whole : (k : ℕ) (s : List ℕ) {t start next : ℕ} → 0 < k → stepOf s ≡ Whole t start next
-    → recordsFrom k s ≡ rec t (bodyOf start next s) ∷ recordsFrom (pred k) (drop next s)
+    → recordsFrom k s ≡ rec t (between start next s) ∷ recordsFrom (pred k) (drop next s)
 unfolding recordsFrom
 records-whole zero s h e = absurd (omega arith)
 records-whole (suc k) s h e = rw e
@@ -81,55 +77,71 @@ rest-over zero s o = refl
 rest-over (suc k) s (unknown e) = rw e
 rest-over (suc k) s (short e) = rw e
 
+-- WHAT A STEP SAYS of the place where it was made: a whole record stands there, and where its body starts and the next record does;
+pub record Stands (s : List ℕ) (p j t start next : ℕ) : Type 0 where
+  pub starts : p < start
+  pub ends : start ≤ next
+  pub inside : next ≤ length s
+  pub below : j < length (recordsOf s)
+  pub cons : drop j (recordsOf s) ≡ rec t (between start next s) ∷ drop (j + 1) (recordsOf s)
+  pub at : getD (recordsOf s) j noRec ≡ rec t (between start next s)
+  pub place : getD (placesOf s) j 0 ≡ p
+  pub body : bodyAt s p ≡ getD (recordsOf s) j noRec .body
+  pub then : Here s next (j + 1)
+
 module _ (s : List ℕ) (p j : ℕ) (h : Here s p j) where
   module _ (t start next : ℕ) (e : stepOf (drop p s) ≡ Whole t start next) where
     lies : Lies (drop p s) t start next
     lies = whole-lies (drop p s) t start next e
 
-    -- the record lies in the bundle
-    pub room : (2 ≤ next) × (start ≤ next) × (p + next ≤ length s)
-    room =
-        let d = length-drop p s in
-        (omega (arith, lies .long), omega (arith, lies .long, lies .behind), omega (arith, lies .inside, h .inside, lies .long))
+    room : (start ≡ 2) × (2 ≤ next) × (p + next ≤ length s)
+    room = (lies .behind, omega (arith, lies .long), omega (arith, length-drop p s, lies .inside, h .inside, lies .long))
 
     fueled : 0 < h .fuel
     fueled = omega (arith, room, h .enough)
 
-    cons : drop j (recordsOf s) ≡ rec t (bodyOf start next (drop p s)) ∷ recordsFrom (pred (h .fuel)) (drop next (drop p s))
-    cons = sym (h .records) ∙ records-whole (h .fuel) (drop p s) fueled e
+    -- the body, counted from the bundle's start
+    there : between (p + start) (p + next) s ≡ between start next (drop p s)
+    there = let n : p + next - (p + start) ≡ next - start = omega arith in rw (n, drop-drop start p s)
 
-    pub here-cons : drop j (recordsOf s) ≡ rec t (bodyOf start next (drop p s)) ∷ drop (j + 1) (recordsOf s)
-    here-cons = rw (← drop-drop 1 j (recordsOf s), cons)
-
-    pub here-below : j < length (recordsOf s)
-    here-below = omega (arith, length-drop j (recordsOf s), ap length cons)
-
-    pub here-at : getD (recordsOf s) j noRec ≡ rec t (bodyOf start next (drop p s))
-    here-at = sym (rw add-zero at (getD-drop j (recordsOf s) 0 noRec)) ∙ rw cons
+    cons : drop j (recordsOf s) ≡ rec t (between (p + start) (p + next) s) ∷ recordsFrom (pred (h .fuel)) (drop next (drop p s))
+    cons = rw there (sym (h .records) ∙ records-whole (h .fuel) (drop p s) fueled e)
 
     place-cons : drop j (placesOf s) ≡ p ∷ placesFrom (pred (h .fuel)) (p + next) (drop next (drop p s))
     place-cons = sym (h .places) ∙ places-whole (h .fuel) p (drop p s) fueled e
 
-    pub here-place : getD (placesOf s) j 0 ≡ p
-    here-place = sym (rw add-zero at (getD-drop j (placesOf s) 0 0)) ∙ rw place-cons
+    here-at : getD (recordsOf s) j noRec ≡ rec t (between (p + start) (p + next) s)
+    here-at = sym (rw add-zero at (getD-drop j (recordsOf s) 0 noRec)) ∙ rw cons
 
-    pub here-body : bodyAt s p ≡ getD (recordsOf s) j noRec .body
-    unfolding bodyAt
-    here-body = rw (e, here-at)
+    here-below : j < length (recordsOf s)
+    here-below = omega (arith, length-drop j (recordsOf s), ap length cons)
 
-    pub here-next : Here s (p + next) (j + 1)
-    here-next =
+    whole-stands : Stands s p j t (p + start) (p + next)
+    unfolding bodyAt stepAt
+    whole-stands =
         record {
-          fuel = pred (h .fuel);
-          enough = omega (arith, room, h .enough);
-          inside = omega (arith, room);
-          counted = omega (arith, room, h .counted);
-          among = omega (arith, here-below);
-          records = rw (← drop-drop next p s, ← drop-drop 1 j (recordsOf s), cons);
-          rest = rw (← drop-drop next p s) (sym (rest-whole (h .fuel) (drop p s) fueled e) ∙ h .rest);
-          places = rw (← drop-drop next p s, ← drop-drop 1 j (placesOf s), place-cons);
+          starts = omega (arith, room);
+          ends = omega (arith, room);
+          inside = room .2;
+          below = here-below;
+          cons = rw (← drop-drop 1 j (recordsOf s), cons);
+          at = here-at;
+          place = sym (rw add-zero at (getD-drop j (placesOf s) 0 0)) ∙ rw place-cons;
+          body = rw (e, here-at);
+          then =
+              record {
+                fuel = pred (h .fuel);
+                enough = omega (arith, room, h .enough);
+                inside = omega (arith, room);
+                counted = omega (arith, room, h .counted);
+                among = omega (arith, here-below);
+                records = rw (← drop-drop next p s, ← drop-drop 1 j (recordsOf s), cons);
+                rest = rw (← drop-drop next p s) (sym (rest-whole (h .fuel) (drop p s) fueled e) ∙ h .rest);
+                places = rw (← drop-drop next p s, ← drop-drop 1 j (placesOf s), place-cons);
+              };
         }
 
+  -- or no whole record does, and the records end.
   module _ (o : Over (drop p s)) where
     pub over-nil : drop j (recordsOf s) ≡ []
     over-nil = sym (h .records) ∙ records-over (h .fuel) (drop p s) o
@@ -140,53 +152,89 @@ module _ (s : List ℕ) (p j : ℕ) (h : Here s p j) where
     pub over-count : length (recordsOf s) ≡ j
     over-count = omega (arith, length-drop j (recordsOf s), ap length over-nil, h .among)
 
+  -- the same of the step that was made
+  moved-whole : (v : Step) (t start next : ℕ) → stepOf (drop p s) ≡ v → moved p v ≡ Whole t start next → Stands s p j t start next
+  moved-whole Unknown t start next q e = let z : _≡_ {A = ℕ} 0 1 = cc in absurd (omega arith)
+  moved-whole Short t start next q e = let z : _≡_ {A = ℕ} 0 1 = cc in absurd (omega arith)
+  moved-whole (Whole u a b) t start next q e =
+      let x : u ≡ t = cc in
+      let y : p + a ≡ start = cc in
+      let z : p + b ≡ next = cc in
+      rw (← x, ← y, ← z) (whole-stands u a b q)
+
+  pub stands : {v : Step} {t start next : ℕ} → v ≡ stepAt s p → v ≡ Whole t start next → Stands s p j t start next
+  unfolding stepAt
+  stands {v} {t} {start} {next} q e = moved-whole (stepOf (drop p s)) t start next refl (sym q ∙ e)
+
+module _ (s : List ℕ) (p : ℕ) where
+  moved-unknown : (v : Step) → moved p v ≡ Unknown → v ≡ Unknown
+  moved-unknown Unknown e = refl
+  moved-unknown Short e = let z : _≡_ {A = ℕ} 0 1 = cc in absurd (omega arith)
+  moved-unknown (Whole t a b) e = let z : _≡_ {A = ℕ} 0 1 = cc in absurd (omega arith)
+
+  moved-short : (v : Step) → moved p v ≡ Short → v ≡ Short
+  moved-short Unknown e = let z : _≡_ {A = ℕ} 0 1 = cc in absurd (omega arith)
+  moved-short Short e = refl
+  moved-short (Whole t a b) e = let z : _≡_ {A = ℕ} 0 1 = cc in absurd (omega arith)
+
+  pub unknown-there : {v : Step} → v ≡ stepAt s p → v ≡ Unknown → stepOf (drop p s) ≡ Unknown
+  unfolding stepAt
+  unknown-there q e = moved-unknown (stepOf (drop p s)) (sym q ∙ e)
+
+  pub short-there : {v : Step} → v ≡ stepAt s p → v ≡ Short → stepOf (drop p s) ≡ Short
+  unfolding stepAt
+  short-there q e = moved-short (stepOf (drop p s)) (sym q ∙ e)
+
+  pub over-there : (v : Step) → OneOf (0 ∷ 1 ∷ []) (tagOf the-type v) → v ≡ stepAt s p → Over (drop p s)
+  over-there Unknown x q = unknown (unknown-there q refl)
+  over-there Short x q = short (short-there q refl)
+  over-there (Whole t start next) x q = ⊎-elim (λ h. absurd (omega arith)) (λ h. absurd (omega arith)) x
+
+  pub over-body : Over (drop p s) → bodyAt s p ≡ []
+  unfolding bodyAt stepAt
+  over-body (unknown e) = rw e
+  over-body (short e) = rw e
+
+  -- a record lies in the bundle wherever the step was made
+  moved-lies : (v : Step) (t start next : ℕ) → stepOf (drop p s) ≡ v → moved p v ≡ Whole t start next → (start ≤ next) × (next ≤ length s)
+  moved-lies Unknown t start next q e = let z : _≡_ {A = ℕ} 0 1 = cc in absurd (omega arith)
+  moved-lies Short t start next q e = let z : _≡_ {A = ℕ} 0 1 = cc in absurd (omega arith)
+  moved-lies (Whole u a b) t start next q e =
+      let l = whole-lies (drop p s) u a b q in
+      let y : p + a ≡ start = cc in
+      let z : p + b ≡ next = cc in
+      let d = length-drop p s in
+      rw (← y, ← z) (omega (arith, l .behind, l .long), omega (arith, l .behind, l .long, l .inside))
+
+  pub step-lies : {v : Step} {t start next : ℕ} → v ≡ stepAt s p → v ≡ Whole t start next → (start ≤ next) × (next ≤ length s)
+  unfolding stepAt
+  step-lies {v} {t} {start} {next} q e = moved-lies (stepOf (drop p s)) t start next refl (sym q ∙ e)
+
+  pub step-body : {v : Step} {t start next : ℕ} → v ≡ stepAt s p → v ≡ Whole t start next → between start next s ≡ bodyAt s p
+  unfolding bodyAt
+  step-body q e = rw (sym q ∙ e)
+
 -- past the last byte no record starts
 pub at-end : (s : List ℕ) (p : ℕ) → length s ≤ p → Over (drop p s)
 at-end s p l = unknown (rw (drop-of-length-le s l) nothing-there)
 
--- a step that is no whole record
-pub not-whole : (v : Step) {s : List ℕ} → OneOf (0 ∷ 1 ∷ []) (tagOf the-type v) → v ≡ stepOf s → Over s
-not-whole Unknown x e = unknown (sym e)
-not-whole Short x e = short (sym e)
-not-whole (Whole t start next) x e = ⊎-elim (λ h. absurd (omega arith)) (λ h. absurd (omega arith)) x
+-- EVERY RECORD HAS ITS PLACE
+module _ (s : List ℕ) where
+  found-at : (p j : ℕ) → Here s p j → j < length (recordsOf s) → (v : Step) → stepOf (drop p s) ≡ v → (t : ℕ) × (start : ℕ) × (next : ℕ) × Stands s p j t start next
+  found-at p j h l Unknown e = absurd (omega (arith, over-count s p j h (unknown e)))
+  found-at p j h l Short e = absurd (omega (arith, over-count s p j h (short e)))
+  found-at p j h l (Whole t start next) e = (t, p + start, p + next, whole-stands s p j h t start next e)
 
--- a rest of the bundle that was handed on, its step and the record at its start
-pub step-lent : (s : List ℕ) (p : ℕ) {v w : Step} → v ≡ stepOf (take (length s - p) (drop p s)) → v ≡ w → stepOf (drop p s) ≡ w
-step-lent s p e f = sym (rw (rest-all s p) at e) ∙ f
+  here-each : (j : ℕ) → j ≤ length (recordsOf s) → (p : ℕ) × Here s p j
+  here-each zero l = (0, here-start s)
+  here-each (suc j) l =
+      let h = here-each j (omega arith) in
+      let f = found-at (h .0) j (h .1) (omega arith) (stepOf (drop (h .0) s)) refl in
+      (f .2, rw (← add-one j) (f .3 .then))
 
-pub over-lent : (s : List ℕ) (p : ℕ) (v : Step) → OneOf (0 ∷ 1 ∷ []) (tagOf the-type v) → v ≡ stepOf (take (length s - p) (drop p s)) → Over (drop p s)
-over-lent s p v x e = not-whole v x (rw (rest-all s p) at e)
-
-pub fits-lent : (s : List ℕ) (p next : ℕ) → p + next ≤ length s → next ≤ length (take (length s - p) (drop p s))
-fits-lent s p next h = rw (rest-all s p, length-drop) (omega arith)
-
--- every record has its place
-found-at : (s : List ℕ) (p j : ℕ) → Here s p j → j < length (recordsOf s) → (v : Step) → stepOf (drop p s) ≡ v → (q : ℕ) × Here s q (j + 1)
-found-at s p j h l Unknown e = absurd (omega (arith, over-count s p j h (unknown e)))
-found-at s p j h l Short e = absurd (omega (arith, over-count s p j h (short e)))
-found-at s p j h l (Whole t start next) e = (p + next, here-next s p j h t start next e)
-
-pub here-each : (s : List ℕ) (j : ℕ) → j ≤ length (recordsOf s) → (p : ℕ) × Here s p j
-here-each s zero l = (0, here-start s)
-here-each s (suc j) l =
-    let h = here-each s j (omega arith) in
-    rw (← add-one j) (found-at s (h .0) j (h .1) (omega arith) (stepOf (drop (h .0) s)) refl)
-
--- the record at its place
-placed : (s : List ℕ) (p j : ℕ) → Here s p j → j < length (recordsOf s) → (v : Step) → stepOf (drop p s) ≡ v
-    → (bodyAt s (getD (placesOf s) j 0) ≡ getD (recordsOf s) j noRec .body) × (getD (placesOf s) j 0 < length s)
-placed s p j h l Unknown e = absurd (omega (arith, over-count s p j h (unknown e)))
-placed s p j h l Short e = absurd (omega (arith, over-count s p j h (short e)))
-placed s p j h l (Whole t start next) e =
-    rw (here-place s p j h t start next e) (here-body s p j h t start next e, omega (arith, room s p j h t start next e))
-
-pub at-place : (s : List ℕ) (j : ℕ) → j < length (recordsOf s)
-    → (bodyAt s (getD (placesOf s) j 0) ≡ getD (recordsOf s) j noRec .body) × (getD (placesOf s) j 0 < length s)
-at-place s j l =
-    let h = here-each s j (omega arith) in
-    placed s (h .0) j (h .1) l (stepOf (drop (h .0) s)) refl
-
-pub over-body : (s : List ℕ) (p : ℕ) → Over (drop p s) → bodyAt s p ≡ []
-unfolding bodyAt
-over-body s p (unknown e) = rw e
-over-body s p (short e) = rw e
+  pub at-place : (j : ℕ) → j < length (recordsOf s)
+      → (bodyAt s (getD (placesOf s) j 0) ≡ getD (recordsOf s) j noRec .body) × (getD (placesOf s) j 0 < length s)
+  at-place j l =
+      let h = here-each j (omega arith) in
+      let f = found-at (h .0) j (h .1) l (stepOf (drop (h .0) s)) refl .3 in
+      rw (f .place) (f .body, omega (arith, f .starts, f .ends, f .inside))

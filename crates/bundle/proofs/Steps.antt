@@ -6,13 +6,16 @@ use mathlib.Core.Bool.{Bool, true, false, cond, _&&_, and-false, and-true}
 use mathlib.Core.List.{List, [], _∷_}
 use native.Mathlib.Omega.{arith}
 use lib.Dec.{eqb, leb, ltb}
-use lib.ListN.{length, getD}
-use borrow.Author.Tests.{leb-false, ltb-false, eq-eqb, ne-eqb, eqb-true, eqb-false}
+use lib.ListN.{length, getD, take, drop, length-take, length-drop}
+use borrow.Author.Tests.{le-leb, lt-leb, lt-ltb, le-ltb, leb-false, ltb-false, eq-eqb, ne-eqb, eqb-true, eqb-false}
 use Rattle.common.specs.Least.{least}
 use Rattle.common.specs.Lists.{same}
-use Rattle.layout.specs.Bytes.{byte-A, byte-C, byte-E, byte-M, byte-O, byte-R}
-use Rattle.layout.specs.Tables.{CO, RE, AR, ME, tables, marks, lengthOf}
-use Rattle.bundle.specs.Records.{tableOf, isMark, stepOf}
+use Rattle.common.proofs.Least.{passes}
+use Rattle.common.proofs.Lists.{same-is}
+use Rattle.layout.specs.Layout.{tableCount, tables, tableAt, co, re, ar, me, lengthOf}
+use Rattle.layout.proofs.Tables.{mark-length}
+use Rattle.bundle.specs.Records.{tableOf, stepOf}
+use Rattle.bundle.specs.Helpers.{isMark, stepAt}
 use Rattle.bundle.specs.declared.walk.Step.the-variants.{Unknown, Short, Whole}
 
 -- a mark, byte by byte
@@ -41,23 +44,17 @@ mark-short a b [] h = refl
 mark-short a b (x ∷ []) h = rw and-false
 mark-short a b (x ∷ y ∷ s) h = absurd (omega arith)
 
--- the first of the four marks that stands there
-pub by-marks : (s : List ℕ)
-    → tableOf s
-    ≡ cond (isMark byte-C byte-O s) CO (cond (isMark byte-R byte-E s) RE (cond (isMark byte-A byte-R s) AR (cond (isMark byte-M byte-E s) ME tables)))
-unfolding tableOf least marks isMark
-by-marks s = go (isMark byte-C byte-O s) (isMark byte-R byte-E s) (isMark byte-A byte-R s) (isMark byte-M byte-E s)
-  where
-    go : (a b c d : Bool) → cond a 0 (suc (cond b 0 (suc (cond c 0 (suc (cond d 0 (suc 0))))))) ≡ cond a 0 (cond b 1 (cond c 2 (cond d 3 4)))
-    go true b c d = refl
-    go false true c d = refl
-    go false false true d = refl
-    go false false false true = refl
-    go false false false false = refl
+-- a known mark has two bytes
+pub known-long : (s : List ℕ) → tableOf s < tableCount → 2 ≤ length s
+unfolding tableOf
+known-long s h =
+    let t = tableOf s in
+    let e = same-is (take 2 s) (tableAt t .mark) (passes (λ u. same (take 2 s) (tableAt u .mark)) tableCount h) in
+    omega (arith, length-take 2 s, ap length e, mark-length t h)
 
 -- a whole record has a table, stands behind its mark, and lies in the bytes
 pub record Lies (s : List ℕ) (t start next : ℕ) : Type 0 where
-  pub named : t < tables
+  pub named : t < tableCount
   pub table : t ≡ tableOf s
   pub behind : start ≡ 2
   pub long : next ≡ 2 + lengthOf t
@@ -72,8 +69,8 @@ by-tests false false t m start next u e = (refl, refl, cc, cc, cc)
 pub whole-lies : (s : List ℕ) (t start next : ℕ) → stepOf s ≡ Whole t start next → Lies s t start next
 unfolding stepOf
 whole-lies s t start next e =
-    let d = by-tests (leb tables (tableOf s)) (ltb (length s) (2 + lengthOf (tableOf s))) (tableOf s) (2 + lengthOf (tableOf s)) start next t e in
-    let n = leb-false tables (tableOf s) (d .0) in
+    let d = by-tests (leb tableCount (tableOf s)) (ltb (length s) (2 + lengthOf (tableOf s))) (tableOf s) (2 + lengthOf (tableOf s)) start next t e in
+    let n = leb-false tableCount (tableOf s) (d .0) in
     let l = ltb-false (length s) (2 + lengthOf (tableOf s)) (d .1) in
     record {
       named = rw (← d .2) n;
@@ -85,5 +82,22 @@ whole-lies s t start next e =
 
 -- where nothing is left there is no mark
 pub nothing-there : stepOf [] ≡ Unknown
-unfolding stepOf tableOf least same marks
+unfolding stepOf tableOf least same tableAt tables co re ar me
 nothing-there = refl
+
+-- THE STEP AT A PLACE, by its tests
+module _ (s : List ℕ) (p : ℕ) {t : ℕ} (e : t ≡ tableOf (drop p s)) where
+  pub step-unknown : tableCount ≤ t → Unknown ≡ stepAt s p
+  unfolding stepAt stepOf
+  step-unknown h = rw (← e, le-leb _ _ h)
+
+  module _ (h : t < tableCount) {l : ℕ} (n : l ≡ lengthOf t) (f : p + 2 ≤ length s) where
+    pub step-short : length s - (p + 2) < l → Short ≡ stepAt s p
+    unfolding stepAt stepOf
+    step-short g = rw (← e, lt-leb _ _ h, ← n, lt-ltb (length (drop p s)) (2 + l) (rw length-drop (omega arith)))
+
+    pub step-whole : l ≤ length s - (p + 2) → Whole t (p + 2) (p + 2 + l) ≡ stepAt s p
+    unfolding stepAt stepOf
+    step-whole g =
+        let q : p + (2 + l) ≡ p + 2 + l = omega arith in
+        rw (← e, lt-leb _ _ h, ← n, le-ltb (length (drop p s)) (2 + l) (rw length-drop (omega arith)), q)

@@ -4,4 +4,4 @@ pub mod Links
 pub mod Verdict
 pub mod Meaning
 pub mod Choice
-pub mod Fits
+pub mod Helpers

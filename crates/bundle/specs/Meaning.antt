@@ -5,43 +5,43 @@ use mathlib.Core.Path.{_≡_}
 use mathlib.Core.Bool.{true, false}
 use mathlib.Core.List.{List, [], _∷_, _++_}
 use lib.ListN.{length, getD}
-use Rattle.layout.specs.Tables.{tables, marks, lengthOf}
-use Rattle.layout.specs.Layout.{layout, noRow, rows}
-use Rattle.layout.specs.Rules.{obeysRow}
+use Rattle.layout.specs.Layout.{tableCount, tableAt, lengthOf}
+use Rattle.layout.specs.Fields.{transferorOf}
+use Rattle.layout.specs.Rules.{keepsRules}
 use Rattle.bundle.specs.Records.{Rec, noRec}
-use Rattle.bundle.specs.Keys.{transferorOf, clash}
+use Rattle.bundle.specs.Keys.{clash}
 use Rattle.bundle.specs.Links.{links, linkRows, noLink, isAsked, serves}
 use Rattle.bundle.specs.Verdict.{limit}
 
 -- the bytes of some records: each behind its mark, with nothing between them
 unfoldable pub joined : List Rec → List ℕ
 joined [] = []
-joined (r ∷ rs) = getD marks (r .kind) [] ++ (r .body ++ joined rs)
+joined (r ∷ rs) = tableAt (r .table) .mark ++ (r .body ++ joined rs)
 
 abbrev pub recordAt : List Rec → ℕ → Rec
 recordAt R i = getD R i noRec
 
 -- a record of one of the tables, of its length
 pub record IsRecord (r : Rec) : Type 0 where
-  pub named : r .kind < tables
-  pub long : length (r .body) ≡ lengthOf (r .kind)
+  pub named : r .table < tableCount
+  pub long : length (r .body) ≡ lengthOf (r .table)
 
--- each row of its table is kept
-abbrev pub KeepsRows : Rec → Type 0
-KeepsRows r = (k : ℕ) → k < rows → getD layout k noRow .table ≡ r .kind → obeysRow (getD layout k noRow) (r .body) ≡ true
+-- each field keeps its rule
+abbrev pub KeepsRules : Rec → Type 0
+KeepsRules r = keepsRules (r .table) (r .body) ≡ true
 
 -- each link that it asks for is there
 abbrev pub Linked : List Rec → Rec → Type 0
 Linked R r =
     (k : ℕ) → k < links → isAsked (getD linkRows k noLink) r ≡ true
-    → (j : ℕ) × (j < length R) × (serves (getD linkRows k noLink .wants) (r .body) (recordAt R j) ≡ true)
+    → (j : ℕ) × (j < length R) × (serves (getD linkRows k noLink) r (recordAt R j) ≡ true)
 
 -- the bytes s are the records R, and these keep every rule
 pub record Good (s : List ℕ) (R : List Rec) : Type 0 where
   pub size : length s ≤ limit
   pub bytes : s ≡ joined R
   pub whole : (i : ℕ) → i < length R → IsRecord (recordAt R i)
-  pub fields : (i : ℕ) → i < length R → KeepsRows (recordAt R i)
-  pub transferors : (i : ℕ) → i < length R → transferorOf (recordAt R i) ≡ transferorOf (recordAt R 0)
+  pub fields : (i : ℕ) → i < length R → KeepsRules (recordAt R i)
+  pub transferors : (i : ℕ) → i < length R → transferorOf (recordAt R i .body) ≡ transferorOf (recordAt R 0 .body)
   pub keys : (i j : ℕ) → i < length R → j < i → clash (recordAt R i) (recordAt R j) ≡ false
   pub linked : (i : ℕ) → i < length R → Linked R (recordAt R i)

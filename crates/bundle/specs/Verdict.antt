@@ -1,13 +1,12 @@
 -- The verdict on a bundle: its checks in document 01's order, of which the first that fails is told ('Keys and links', 'Numbers that turn work away').
 -- Assumes nothing.
 use Prim.Native.Nat.{ℕ}
-use mathlib.Core.Bool.{Bool, true, false, _&&_}
+use mathlib.Core.Bool.{Bool, true, false, not, _&&_}
 use mathlib.Core.List.{List, [], _∷_, _++_}
-use lib.Dec.{ltb}
+use lib.Dec.{eqb, ltb}
 use lib.ListN.{length, getD}
 use Rattle.common.specs.Checks.{Finding, Check, check, unless, firstFault, eachFrom}
-use Rattle.layout.specs.Layout.{layout, noRow, rows}
-use Rattle.layout.specs.Rules.{brokenRow}
+use Rattle.layout.specs.Rules.{brokenField}
 use Rattle.bundle.specs.Records.{Rec, stepOf, recordsOf, restOf}
 use Rattle.bundle.specs.Keys.{otherTransferor, earlierOf}
 use Rattle.bundle.specs.Links.{links, linkRows, noLink, missingLink}
@@ -33,8 +32,8 @@ isShort (Whole t start next) = false
 -- 4: a field of record i breaks its rule; the first such field is the detail
 abbrev pub fieldChecks : ℕ → Rec → List Check
 fieldChecks i r =
-    let k : ℕ = brokenRow (r .kind) (r .body) in
-    check (ltb k rows) 4 i (getD layout k noRow .field) ∷ []
+    let f : ℕ = brokenField (r .table) (r .body) in
+    check (not (eqb f 0)) 4 i f ∷ []
 
 -- 2 and 3: where the n whole records end, bytes are left whose mark is unknown (or one byte), or that are too few for their record
 abbrev pub endChecks : ℕ → List ℕ → List Check

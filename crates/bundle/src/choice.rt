@@ -1,10 +1,18 @@
 // The record that is used for a leg.
 ghost use mathlib.Core.Path.{_≡_};
-ghost use Prim.Native.Nat.{ℕ};
 ghost use Rattle.bundle.specs.Records.{rec, recordsOf};
-ghost use Rattle.bundle.specs.Choice.{codeFits, choiceOf, atPlace};
-ghost use Rattle.bundle.specs.Fits.{fitOf, onDayAt, firstGeneral};
+ghost use Rattle.bundle.specs.Choice.{choiceOf};
+ghost use Rattle.bundle.specs.Helpers.{atPlace, fitOf, onDayAt, firstGeneral};
 use super::walk::Step;
+
+// What is wanted of a record: its table, and the offer, railway, code and day that are asked for. The code of a table that has none is not looked at.
+pub struct Wanted {
+    pub table: u32,
+    pub offer: u32,
+    pub railway: u32,
+    pub code: u32,
+    pub day: u32,
+}
 
 // The place of its mark in the bundle; or it does not hold that day; or there is none.
 pub enum Choice {
@@ -19,33 +27,24 @@ const GENERAL: u8 = 1;
 
 const OWN: u8 = 2;
 
-fn code_fits(table: u8, code: u32, body: &[u8]) -> bool
-    ensures { λ r. ⌜ r ≡ codeFits table code (now (body .entry)) ⌝ }
-{
-    if table != layout::AR {
-        return true;
-    }
-    layout::number_at(body, 14, 3) == code
-}
-
 // Whether a record is the railway's own, the one for all railways, or another.
-fn fit(table: u8, offer: u32, railway: u32, code: u32, t: u8, body: &[u8]) -> u8
-    ensures { λ r. ⌜ r ≡ fitOf table offer railway code (rec t (now (body .entry))) ⌝ }
+fn fit(wanted: Wanted, table: u32, body: &[u8]) -> u8
+    ensures { λ r. ⌜ r ≡ fitOf wanted (rec table (now (body .entry))) ⌝ }
 {
-    if t != table {
+    if table != wanted.table {
         return OTHER;
     }
-    if layout::number_at(body, 5, 5) != offer {
+    if layout::fields::offer_number(body) != wanted.offer {
         return OTHER;
     }
-    if !code_fits(table, code, body) {
+    if !layout::fields::code_fits(table, wanted.code, body) {
         return OTHER;
     }
-    let r = layout::field(body, 10, 4);
-    if layout::company::code_of(r) == railway {
+    let railway = layout::fields::railway(body);
+    if layout::company::company_of(railway) == wanted.railway {
         return OWN;
     }
-    if layout::company::is_all_railways(r) {
+    if layout::company::is_all_railways(railway) {
         return GENERAL;
     }
     OTHER
@@ -65,35 +64,38 @@ fn first_general(none: usize, general: usize, f: u8, at: usize) -> usize
 }
 
 // The record at a place, held against the day.
-fn on_day(bundle: &[u8], place: usize, table: u8, day: u32) -> Choice
-    ensures { λ r. ⌜ r ≡ onDayAt (now (bundle .entry)) place table day ⌝ }
+fn on_day(bundle: &[u8], place: usize, wanted: Wanted) -> Choice
+    ensures { λ r. ⌜ r ≡ onDayAt (now (bundle .entry)) place wanted ⌝ }
 {
     if bundle.len() <= place {
         return Choice::Nothing;
     }
-    if layout::holds_day(table, super::walk::body_at(bundle, place), day) {
+    if layout::fields::holds_day(
+        wanted.table,
+        super::walk::body_at(bundle, place),
+        wanted.day,
+    ) {
         return Choice::At(place);
     }
     Choice::NotThatDay
 }
 
-pub fn choose(bundle: &[u8], table: u8, offer: u32, railway: u32, code: u32, day: u32) -> Choice
-    ensures { λ r. ⌜ r ≡ atPlace (now (bundle .entry)) (choiceOf (recordsOf (now (bundle .entry))) table offer railway code day) ⌝ }
+pub fn choose(bundle: &[u8], wanted: Wanted) -> Choice
+    ensures { λ r. ⌜ r ≡ atPlace (now (bundle .entry)) (choiceOf (recordsOf (now (bundle .entry))) wanted) ⌝ }
 {
     let n = bundle.len();
     let mut general = n;
     let mut at = 0;
     loop {
-        let rest = &bundle[at..n];
-        let here = super::walk::first_step(rest);
-        let Step::Whole(t, start, next) = here else {
-            return on_day(bundle, general, table, day);
+        let here = super::walk::step_at(bundle, at);
+        let Step::Whole(table, start, next) = here else {
+            return on_day(bundle, general, wanted);
         };
-        let f = fit(table, offer, railway, code, t, &rest[start..next]);
+        let f = fit(wanted, table, &bundle[start..next]);
         if f == OWN {
-            return on_day(bundle, at, table, day);
+            return on_day(bundle, at, wanted);
         }
         general = first_general(n, general, f, at);
-        at += next;
+        at = next;
     }
 }

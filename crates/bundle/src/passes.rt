@@ -11,12 +11,12 @@ use super::walk::Step;
 pub fn first_pass(bundle: &[u8]) -> Judgement
     ensures { λ r. ⌜ r ≡ judged (firstFault (firstPass (now (bundle .entry)))) (length (recordsOf (now (bundle .entry)))) ⌝ }
 {
+    let rows = layout::rows::all();
     let n = bundle.len();
     let mut at = 0;
     let mut i = 0;
     while at < n {
-        let rest = &bundle[at..n];
-        let here = super::walk::first_step(rest);
+        let here = super::walk::step_at(bundle, at);
         match here {
             Step::Unknown => {
                 return Judgement::Refused(common::refuse(2, i, 0));
@@ -25,12 +25,14 @@ pub fn first_pass(bundle: &[u8]) -> Judgement
                 return Judgement::Refused(common::refuse(3, i, 0));
             }
             Step::Whole(table, start, next) => {
-                let k = layout::broken_row(table, &rest[start..next]);
-                if k < layout::ROWS {
-                    let row = layout::row_at(k);
-                    return Judgement::Refused(common::refuse(4, i, row.field as usize));
+                let field = layout::rows::broken_field(
+                    layout::rows::of_table(&rows, table),
+                    &bundle[start..next],
+                );
+                if field != 0 {
+                    return Judgement::Refused(common::refuse(4, i, field));
                 }
-                at += next;
+                at = next;
                 i += 1;
             }
         }
@@ -42,33 +44,30 @@ pub fn first_pass(bundle: &[u8]) -> Judgement
 pub fn second_pass(bundle: &[u8]) -> Judgement
     ensures { λ r. ⌜ r ≡ judged (firstFault (secondPass (recordsOf (now (bundle .entry))))) (length (recordsOf (now (bundle .entry)))) ⌝ }
 {
-    let n = bundle.len();
     let transferor = super::keys::first_transferor(bundle);
     let mut at = 0;
     let mut i = 0;
     let verdict = 'records: loop {
-        let rest = &bundle[at..n];
-        let here = super::walk::first_step(rest);
+        let here = super::walk::step_at(bundle, at);
         let Step::Whole(table, start, next) = here else {
             break 'records Judgement::Accepted(i);
         };
-        let r = &rest[start..next];
-        if !common::same_bytes(layout::field(r, 1, 4), transferor) {
+        let r = &bundle[start..next];
+        if !common::same_bytes(layout::fields::transferor(r), transferor) {
             break 'records Judgement::Refused(common::refuse(5, i, 0));
         }
         let mut p = 0;
         let mut j = 0;
         while j < i {
-            let before = &bundle[p..n];
-            let there = super::walk::first_step(before);
+            let there = super::walk::step_at(bundle, p);
             // every record before this one was whole, so that this is never reached
             let Step::Whole(t, s, e) = there else {
                 break 'records Judgement::Accepted(j);
             };
-            if super::keys::clashes(table, r, t, &before[s..e]) {
+            if super::keys::clashes(table, r, t, &bundle[s..e]) {
                 break 'records Judgement::Refused(common::refuse(6, i, j));
             }
-            p += e;
+            p = e;
             j += 1;
         }
         let k = super::links::missing_link(bundle, table, r);
@@ -76,7 +75,7 @@ pub fn second_pass(bundle: &[u8]) -> Judgement
             let link = super::links::link_at(k);
             break 'records Judgement::Refused(common::refuse(7, i, link.detail));
         }
-        at += next;
+        at = next;
         i += 1;
     };
     verdict

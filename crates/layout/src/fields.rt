@@ -36,6 +36,12 @@ pub fn offer(body: &[u8]) -> &[u8]
     field(body, 5, 5)
 }
 
+pub fn offer_number(body: &[u8]) -> u32
+    ensures { λ r. ⌜ r ≡ valueOf (numberOf (offerOf (now (body .entry)))) ⌝ }
+{
+    number_at(body, 5, 5)
+}
+
 pub fn railway(body: &[u8]) -> &[u8]
     ensures { λ r. ⌜ now r ≡ railwayOf (now (body .entry)) ⌝ }
 {

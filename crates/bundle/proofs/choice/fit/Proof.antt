@@ -1,81 +1,69 @@
--- `bundle::choice::fit` meets its contract.
--- Assumes nothing.
-use borrow.Author.Tests.{eq-eqb, ne-eqb, not-true, not-false}
-use Rattle.bundle.specs.Choice.{isOf}
-use Rattle.bundle.specs.Fits.{fitOf}
 use borrow.Author.Needs.{needs}
 use Rattle.bundle.proofs.choice.fit.Statement.{statement}
 use Rattle.bundle.proofs.choice.fit.Tie as tie
+use Rattle.bundle.proofs.choice.fit.Reads as reads
+use Rattle.bundle.proofs.choice.fit.Lts as lts
+use Rattle.layout.proofs.company.company_of.Reads as company-of-reads
+use Rattle.layout.proofs.company.is_all_railways.Reads as is-all-railways-reads
+use Rattle.layout.proofs.fields.code_fits.Reads as code-fits-reads
+use Rattle.layout.proofs.fields.offer_number.Reads as offer-number-reads
+use Rattle.layout.proofs.fields.railway.Reads as railway-reads
 
+-- src/choice.rt:35:9
 returns : tie.Need-returns
-unfolding fitOf isOf
-returns c = rw (ne-eqb _ _ (c .if1 .taken))
+returns c = ?
 
-number-at-requires : tie.Need-number-at-requires
-number-at-requires c κs = search needs
+-- src/choice.rt:37:8
+offer-number-requires : tie.Need-offer-number-requires
+offer-number-requires c κs = search needs
 
+-- src/choice.rt:38:9
 returns-2 : tie.Need-returns-2
-unfolding fitOf isOf
-returns-2 c =
-    let o = c .before in
-    rw (eq-eqb _ _ (o .before .if1 .left), ← o .number-at .ensures, ne-eqb _ _ (c .if2 .taken))
+returns-2 c = ?
 
+-- src/choice.rt:40:9
 code-fits-requires : tie.Need-code-fits-requires
 code-fits-requires c κs = search needs
 
+-- src/choice.rt:41:9
 returns-3 : tie.Need-returns-3
-unfolding fitOf isOf
-returns-3 c =
-    let d = c .before in
-    let o = d .before .before in
-    rw (eq-eqb _ _ (o .before .if1 .left), ← o .number-at .ensures, eq-eqb _ _ (d .before .if2 .left), ← d .code-fits .ensures, not-true (d .code-fits .result) (c .if3 .taken))
+returns-3 c = ?
 
-field-requires : tie.Need-field-requires
-field-requires c κs = search needs
+-- src/choice.rt:43:9
+railway-requires : tie.Need-railway-requires
+railway-requires c κs = search needs
 
-code-of-requires : tie.Need-code-of-requires
-code-of-requires c κs = search needs
+-- src/choice.rt:44:8
+company-of-requires : tie.Need-company-of-requires
+company-of-requires c κs = search needs
 
+-- src/choice.rt:45:9
 returns-4 : tie.Need-returns-4
-unfolding fitOf isOf
-returns-4 c =
-    let f = c .before .before in
-    let d = f .before .before in
-    let o = d .before .before in
-    rw (eq-eqb _ _ (o .before .if1 .left), ← o .number-at .ensures, eq-eqb _ _ (d .before .if2 .left), ← d .code-fits .ensures, not-false (d .code-fits .result) (f .before .if3 .left), ← f .field .ensures, ← c .before .code-of .ensures, eq-eqb _ _ (c .if4 .taken))
+returns-4 c = ?
 
+-- src/choice.rt:47:8
 is-all-railways-requires : tie.Need-is-all-railways-requires
 is-all-railways-requires c κs = search needs
 
+-- src/choice.rt:48:9
 returns-5 : tie.Need-returns-5
-unfolding fitOf isOf
-returns-5 c =
-    let k = c .before .before in
-    let f = k .before .before in
-    let d = f .before .before in
-    let o = d .before .before in
-    rw (eq-eqb _ _ (o .before .if1 .left), ← o .number-at .ensures, eq-eqb _ _ (d .before .if2 .left), ← d .code-fits .ensures, not-false (d .code-fits .result) (f .before .if3 .left), ← f .field .ensures, ← k .before .code-of .ensures, ne-eqb _ _ (k .if4 .left), ← c .before .is-all-railways .ensures, c .if5 .taken)
+returns-5 c = ?
 
+-- src/choice.rt:31:1
 returns-6 : tie.Need-returns-6
-unfolding fitOf isOf
-returns-6 c =
-    let k = c .before .before in
-    let f = k .before .before in
-    let d = f .before .before in
-    let o = d .before .before in
-    rw (eq-eqb _ _ (o .before .if1 .left), ← o .number-at .ensures, eq-eqb _ _ (d .before .if2 .left), ← d .code-fits .ensures, not-false (d .code-fits .result) (f .before .if3 .left), ← f .field .ensures, ← k .before .code-of .ensures, ne-eqb _ _ (k .if4 .left), ← c .before .is-all-railways .ensures, c .if5 .left)
+returns-6 c = ?
 
 pub fit-spec : {M : Type 1} → statement M
 fit-spec =
     tie.close
     (tie.spec
     returns
-    number-at-requires
+    offer-number-requires
     returns-2
     code-fits-requires
     returns-3
-    field-requires
-    code-of-requires
+    railway-requires
+    company-of-requires
     returns-4
     is-all-railways-requires
     returns-5

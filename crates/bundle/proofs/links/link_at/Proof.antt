@@ -1,34 +1,35 @@
--- `bundle::links::link_at` meets its contract: the code's table of links is the definition's, which antt computes.
--- Assumes nothing.
-use mathlib.Core.Path.{ap, sym}
-use native.Mathlib.Omega.{arith}
-use lib.ListN.{List·getD-map, List·getD-eq-default}
-use Rattle.bundle.specs.declared.links.Entry.{Entry}
-use Rattle.bundle.specs.declared.links.Link.{Link}
-use Rattle.bundle.specs.Links.{linkRows, noLink}
 use borrow.Author.Needs.{needs}
 use Rattle.bundle.proofs.links.link_at.Statement.{statement}
 use Rattle.bundle.proofs.links.link_at.Tie as tie
+use Rattle.bundle.proofs.links.link_at.Reads as reads
+use Rattle.bundle.proofs.links.link_at.Lts as lts
+use Rattle.bundle.proofs.links.named.Reads as named-reads
 
-abbrev asLink : Entry → Link
-asLink e = record { table = e .0; flag = e .1; wants = e .2; detail = e .3 }
+-- src/links.rt:41:9
+named-requires : tie.Need-named-requires
+named-requires c κs = search needs
 
-abbrev asEntry : Link → Entry
-asEntry l = (l .table, l .flag, l .wants, l .detail)
-
+-- src/links.rt:41:9
 returns : tie.Need-returns
-unfolding linkRows
-returns c = sym (List·getD-eq-default linkRows noLink {n = c .before .args .k} (omega arith))
+returns c = ?
 
-mul-e : tie.Need-mul-e
-mul-e c = search needs
+-- src/links.rt:43:11
+mul-named : tie.Need-mul-named
+mul-named c = search needs
 
-array-copy-out-e : tie.Need-array-copy-out-e
-array-copy-out-e c = search needs
+-- src/links.rt:43:11
+array-copy-out-named : tie.Need-array-copy-out-named
+array-copy-out-named c = search needs
 
+-- src/links.rt:43:5
+named-requires-2 : tie.Need-named-requires-2
+named-requires-2 c κs = search needs
+
+-- src/links.rt:37:1
 returns-2 : tie.Need-returns-2
-unfolding linkRows
-returns-2 c = ap asLink (List·getD-map asEntry linkRows (c .before .before .args .k) noLink)
+returns-2 c = ?
 
 pub link-at-spec : {M : Type 1} → statement M
-link-at-spec = tie.close (tie.spec returns mul-e array-copy-out-e returns-2)
+link-at-spec =
+    tie.close
+    (tie.spec named-requires returns mul-named array-copy-out-named named-requires-2 returns-2)

@@ -1,105 +1,127 @@
--- `bundle::passes::first_pass` meets its contract. The loop's invariant: the loop stands at record i, and the pass finds what it finds from there on.
--- Assumes nothing.
-use Prim.Native.Nat.{ℕ, _+_, _-_, _≤_}
-use mathlib.Core.Path.{_≡_, sym, _∙_}
-use mathlib.Core.List.{List}
-use native.Mathlib.Omega.{arith}
-use lib.ListN.{length, drop}
-use borrow.Author.Needs.{needs}
-use Rattle.common.specs.Checks.{firstFault}
-use Rattle.common.proofs.Parts.{rest-all}
-use Rattle.common.proofs.Checks.{as-found}
-use Rattle.layout.specs.Rules.{brokenRow}
-use Rattle.bundle.specs.Records.{stepOf}
-use Rattle.bundle.specs.Verdict.{firstPass}
-use Rattle.bundle.specs.declared.Judgement.the-variants.{Refused}
-use Rattle.bundle.specs.declared.walk.Step.the-variants.{Whole}
-use Rattle.bundle.proofs.Here.{Here, bodyOf, here-start, here-next, room, step-lent, fits-lent}
-use Rattle.bundle.proofs.PassLaws.{firstFrom, first-start, first-unknown, first-short, first-end, field-fault, fields-pass}
 use Rattle.bundle.proofs.passes.first_pass.Statement.{statement}
 use Rattle.bundle.proofs.passes.first_pass.Tie as tie
+use Rattle.bundle.proofs.passes.first_pass.Reads as reads
+use Rattle.bundle.proofs.passes.first_pass.Lts as lts
+use Rattle.bundle.proofs.walk.step_at.Reads as step-at-reads
+use Rattle.common.proofs.refuse.Reads as refuse-reads
+use Rattle.layout.proofs.rows.all.Reads as all-reads
+use Rattle.layout.proofs.rows.broken_field.Reads as broken-field-reads
+use Rattle.layout.proofs.rows.of_table.Reads as of-table-reads
 
 abbrev Inv-loop : tie.InvT-loop
-Inv-loop bundle n at₀ i₀ at i = Here bundle at i × (firstFault (firstPass bundle) ≡ firstFrom bundle i)
+Inv-loop bundle rows n at₀ i₀ at i = ?
 
 abbrev μ-loop : tie.MeasureT-loop
-μ-loop bundle n at₀ i₀ at i = length bundle - at
+μ-loop bundle rows n at₀ i₀ at i = ?
 
-abbrev At : Type 0
-At = tie.At-loop Inv-loop μ-loop
+-- src/passes.rt:14:16
+all-requires : tie.Need-all-requires Inv-loop μ-loop
+all-requires c κs = ?
 
-abbrev Known : Type 0
-Known = tie.After-known-told Inv-loop μ-loop
+-- src/passes.rt:18:5
+loop-holds : tie.Need-loop-holds Inv-loop μ-loop
+loop-holds c = ?
 
-abbrev bundle-of : At → List ℕ
-bundle-of l = l .before .before .args .bundle .now
+-- src/passes.rt:19:13
+step-at-requires : tie.Need-step-at-requires Inv-loop μ-loop
+step-at-requires c κs = ?
 
-abbrev place : Known → At
-place k = k .before .before .before .before .before .before
+-- src/passes.rt:22:43
+enum-told : tie.Need-enum-told Inv-loop μ-loop
+enum-told c = ?
 
-abbrev table : Known → ℕ
-table k = k .before .here .given .0 .0
+-- src/passes.rt:22:43
+refuse-requires : tie.Need-refuse-requires Inv-loop μ-loop
+refuse-requires c κs = ?
 
-abbrev start : Known → ℕ
-start k = k .before .here .given .0 .1 .0
-
-abbrev next : Known → ℕ
-next k = k .before .here .given .0 .1 .1 .0
-
-whole : (k : Known) → stepOf (drop (place k .loop .at) (bundle-of (place k))) ≡ Whole (table k) (start k) (next k)
-whole k = step-lent (bundle-of (place k)) (place k .loop .at) (k .before .before .before .first-step .ensures) (k .before .here .given .1)
-
-lies : (k : Known) → (2 ≤ next k) × (start k ≤ next k) × (place k .loop .at + next k ≤ length (bundle-of (place k)))
-lies k = room (bundle-of (place k)) (place k .loop .at) (place k .loop .i) (place k .loop .inv .0) _ _ _ (whole k)
-
-broken : (c : tie.After-broken-row Inv-loop μ-loop) → let k = c .before .before in
-    c .broken-row .result ≡ brokenRow (table k) (bodyOf (start k) (next k) (drop (place k .loop .at) (bundle-of (place k))))
-broken c = let k = c .before .before in rw (rest-all (bundle-of (place k)) (place k .loop .at)) at (c .broken-row .ensures)
-
+-- src/passes.rt:22:17
 returns : tie.Need-returns Inv-loop μ-loop
-returns c =
-    let f = c .before .before .before in
-    let l = f .before .before .before in
-    let e = step-lent (bundle-of l) (l .loop .at) (f .first-step .ensures) (c .before .enum-told .given .1) in
-    as-found Refused _ (l .loop .inv .1 ∙ first-unknown (bundle-of l) (l .loop .at) (l .loop .i) (l .loop .inv .0) (f .before .before .loop-test .taken) e) (c .refuse .ensures)
+returns c = ?
 
+-- src/passes.rt:25:43
+enum-told-2 : tie.Need-enum-told-2 Inv-loop μ-loop
+enum-told-2 c = ?
+
+-- src/passes.rt:25:43
+refuse-requires-2 : tie.Need-refuse-requires-2 Inv-loop μ-loop
+refuse-requires-2 c κs = ?
+
+-- src/passes.rt:25:17
 returns-2 : tie.Need-returns-2 Inv-loop μ-loop
-returns-2 c =
-    let f = c .before .before .before in
-    let l = f .before .before .before in
-    let e = step-lent (bundle-of l) (l .loop .at) (f .first-step .ensures) (c .before .enum-told2 .given .1) in
-    as-found Refused _ (l .loop .inv .1 ∙ first-short (bundle-of l) (l .loop .at) (l .loop .i) (l .loop .inv .0) (f .before .before .loop-test .taken) e) (c .refuse2 .ensures)
+returns-2 c = ?
 
+-- src/passes.rt:27:25
+enum-known-here : tie.Need-enum-known-here Inv-loop μ-loop
+enum-known-here c = ?
+
+-- src/passes.rt:29:21
+of-table-requires : tie.Need-of-table-requires Inv-loop μ-loop
+of-table-requires c κs = ?
+
+-- src/passes.rt:30:21
+sub-broken-field : tie.Need-sub-broken-field Inv-loop μ-loop
+sub-broken-field c = ?
+
+-- src/passes.rt:30:21
+part-broken-field-start : tie.Need-part-broken-field-start Inv-loop μ-loop
+part-broken-field-start c = ?
+
+-- src/passes.rt:30:21
+part-broken-field-end : tie.Need-part-broken-field-end Inv-loop μ-loop
+part-broken-field-end c = ?
+
+-- src/passes.rt:28:21
+broken-field-requires : tie.Need-broken-field-requires Inv-loop μ-loop
+broken-field-requires c κs = ?
+
+-- src/passes.rt:33:47
+refuse-requires-3 : tie.Need-refuse-requires-3 Inv-loop μ-loop
+refuse-requires-3 c κs = ?
+
+-- src/passes.rt:33:21
 returns-3 : tie.Need-returns-3 Inv-loop μ-loop
-returns-3 c =
-    let d = c .before .before in
-    let b = d .before .before in
-    let k = b .before .before in
-    let l = place k in
-    let q = field-fault (bundle-of l) (l .loop .at) (l .loop .i) (l .loop .inv .0) _ _ _ (whole k) (rw (broken b) at (d .before .if1 .taken)) in
-    as-found Refused _ (l .loop .inv .1 ∙ q) (c .refuse3 .ensures ∙ rw (d .row-at .ensures, broken b))
+returns-3 c = ?
 
+-- src/passes.rt:36:17
+add-i : tie.Need-add-i Inv-loop μ-loop
+add-i c = ?
+
+-- src/passes.rt:18:5
+loop-less : tie.Need-loop-less Inv-loop μ-loop
+loop-less c = ?
+
+-- src/passes.rt:18:5
 loop-again : tie.Need-loop-again Inv-loop μ-loop
-loop-again c =
-    let k = c .before .before .before in
-    let l = place k in (
-      here-next (bundle-of l) (l .loop .at) (l .loop .i) (l .loop .inv .0) _ _ _ (whole k),
-      l .loop .inv .1 ∙ fields-pass (bundle-of l) (l .loop .at) (l .loop .i) (l .loop .inv .0) _ _ _ (whole k) (rw (broken (c .before)) at (c .if1 .left)),
-    )
+loop-again c = ?
 
+-- src/passes.rt:11:1
 returns-4 : tie.Need-returns-4 Inv-loop μ-loop
-returns-4 c =
-    let l = c .before in
-    let e = first-end (bundle-of l) (l .loop .at) (l .loop .i) (l .loop .inv .0) (c .loop-test .left) in
-    sym (rw (l .loop .inv .1 ∙ e .0, e .1))
+returns-4 c = ?
 
 pub first-pass-spec : {M : Type 1} → statement M
 first-pass-spec =
-    tie.close (tie.spec
-    Inv-loop μ-loop (λ c. (here-start _, first-start _)) (λ c. search needs) (λ c. search needs) (λ c. search needs) (λ c κs. search needs)
-    (λ c. search needs) (λ c κs. search needs) returns (λ c. search needs) (λ c κs. search needs) returns-2 (λ c. search needs)
-    (λ c. omega (arith, lies c)) (λ c. omega (arith, lies c)) (λ c. fits-lent (bundle-of (place c)) (place c .loop .at) (next c) (lies c .2))
-    (λ c κs. search needs) (λ c κs. search needs) (λ c. search needs) (λ c κs. search needs) returns-3
-    (λ c. omega (arith, lies (c .before .before .before)))
-    (λ c. omega (arith, lies (c .before .before .before), place (c .before .before .before) .loop .inv .0 .counted))
-    (λ c. omega (arith, lies (c .before .before .before))) loop-again returns-4)
+    tie.close
+    (tie.spec
+    Inv-loop
+    μ-loop
+    all-requires
+    loop-holds
+    step-at-requires
+    enum-told
+    refuse-requires
+    returns
+    enum-told-2
+    refuse-requires-2
+    returns-2
+    enum-known-here
+    of-table-requires
+    sub-broken-field
+    part-broken-field-start
+    part-broken-field-end
+    broken-field-requires
+    refuse-requires-3
+    returns-3
+    add-i
+    loop-less
+    loop-again
+    returns-4)

@@ -1,0 +1,67 @@
+-- What the code's helpers answer: places in the bundle in place of numbers of records. Nothing here has to be believed: no promise and no answer of a call
+-- is stated with it.
+-- Assumes nothing.
+use Prim.Native.Nat.{ℕ, zero, suc, _+_}
+use mathlib.Core.Bool.{Bool, cond}
+use mathlib.Core.List.{List, [], _∷_}
+use lib.Dec.{eqb, leb}
+use lib.ListN.{length, getD, take, drop}
+use Rattle.common.specs.Lists.{same}
+use Rattle.layout.specs.Company.{companyOf, isAllRailways}
+use Rattle.layout.specs.Fields.{railwayOf, holdsDay}
+use Rattle.bundle.specs.Records.{Rec, stepOf, ifWhole, between}
+use Rattle.bundle.specs.Links.{link}
+use Rattle.bundle.specs.Choice.{isOf}
+use Rattle.bundle.specs.declared.links.Link.{Link}
+use Rattle.bundle.specs.declared.walk.Step.{Step}
+use Rattle.bundle.specs.declared.walk.Step.the-variants.{Unknown, Short, Whole}
+use Rattle.bundle.specs.declared.choice.Wanted.{Wanted}
+use Rattle.bundle.specs.declared.choice.Choice.{Choice}
+use Rattle.bundle.specs.declared.choice.Choice.the-variants.{At, NotThatDay, Nothing}
+
+-- the mark of two letters stands there
+unfoldable pub isMark : ℕ → ℕ → List ℕ → Bool
+isMark a b s = same (take 2 s) (a ∷ b ∷ [])
+
+-- what stands at a place of the bundle, its start and the next record's counted from the bundle's start
+abbrev pub moved : ℕ → Step → Step
+moved p Unknown = Unknown
+moved p Short = Short
+moved p (Whole t start next) = Whole t (p + start) (p + next)
+
+unfoldable pub stepAt : List ℕ → ℕ → Step
+stepAt s p = moved p (stepOf (drop p s))
+
+-- where the mark of each record stands, in bytes from the start; the first of them is counted p
+unfoldable pub placesFrom : ℕ → ℕ → List ℕ → List ℕ
+placesFrom zero p s = []
+placesFrom (suc most) p s = ifWhole (stepOf s) [] (λ t start next. p ∷ placesFrom most (p + next) (drop next s))
+
+unfoldable pub placesOf : List ℕ → List ℕ
+placesOf s = placesFrom (length s) 0 s
+
+-- the bytes without the mark of the record whose mark stands at a place, none where no whole record starts there
+unfoldable pub bodyAt : List ℕ → ℕ → List ℕ
+bodyAt s p = ifWhole (stepAt s p) [] (λ t start next. between start next s)
+
+-- a choice by the place of its mark
+abbrev pub atPlace : List ℕ → Choice → Choice
+atPlace s (At i) = At (getD (placesOf s) i 0)
+atPlace s NotThatDay = NotThatDay
+atPlace s Nothing = Nothing
+
+-- 2 for the railway's own record, 1 for the one for all railways, 0 for another
+unfoldable pub fitOf : Wanted → Rec → ℕ
+fitOf w r =
+    cond (isOf w r) (cond (eqb (companyOf (railwayOf (r .body))) (w .railway)) 2 (cond (isAllRailways (railwayOf (r .body))) 1 0)) 0
+
+unfoldable pub firstGeneral : ℕ → ℕ → ℕ → ℕ → ℕ
+firstGeneral none general f at = cond (eqb general none) (cond (eqb f 1) at none) general
+
+unfoldable pub onDayAt : List ℕ → ℕ → Wanted → Choice
+onDayAt s place w =
+    cond (leb (length s) place) Nothing (cond (holdsDay (w .table) (bodyAt s place) (w .day)) (At place) NotThatDay)
+
+-- a row of the code's links, its parts by name
+abbrev pub asLink : List ℕ → Link
+asLink e = link (getD e 0 0) (getD e 1 0) (getD e 2 0) (getD e 3 0) (getD e 4 0)
