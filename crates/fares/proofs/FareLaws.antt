@@ -1,7 +1,7 @@
 -- What each leg adds to the fare: the laws that the loop over the legs cites.
 -- Assumes nothing.
 use Prim.Native.Nat.{ℕ, _+_, _-_, _*_, _≤_, _<_}
-use mathlib.Core.Path.{_≡_, refl, sym, _∙_, ap}
+use mathlib.Core.Path.{_≡_}
 use mathlib.Core.Bool.{true, false, cond}
 use mathlib.Core.List.{List, [], _∷_, _++_, map}
 use mathlib.Core.Logic.{⊎-elim}
@@ -14,7 +14,7 @@ use Rattle.common.specs.Checks.{refuse, Finding, clean, fault, Check, check, fi
 use Rattle.common.specs.declared.Refusal.{Refusal}
 use Rattle.common.proofs.Tests.{both-true}
 use Rattle.common.proofs.Lists.{every-at}
-use Rattle.common.proofs.Checks.{by-finding, as-found, orElse, unless-else, fault-append, each-step, each-end}
+use Rattle.common.proofs.Checks.{by-finding, as-found, orElse, fault-append, each-step, each-end}
 use Rattle.common.proofs.Sums.{sum-small}
 use Rattle.bundle.specs.Records.{Rec, recordsOf}
 use Rattle.bundle.specs.Verdict.{checks, verdictOf}
@@ -74,10 +74,7 @@ module _ (R : List Rec) (q : Question) where
 
   pub left-step : (k : ℕ) → k < length (legsOf q) → left k ≡ orElse (firstFault (legChecks R q k (getD (legsOf q) k noLeg))) (left (k + 1))
   unfolding left
-  left-step k l =
-      fault-append (eachFrom k (legChecks R q) (drop k (legsOf q))) lastCheck
-      ∙ (rw (each-step (legChecks R q) (legsOf q) k noLeg l) (unless-else fault (firstFault (legChecks R q k (getD (legsOf q) k noLeg))) (firstFault (eachFrom (k + 1) (legChecks R q) (drop (k + 1) (legsOf q)))) (firstFault lastCheck))
-      ∙ ap (orElse (firstFault (legChecks R q k (getD (legsOf q) k noLeg)))) (sym (fault-append (eachFrom (k + 1) (legChecks R q) (drop (k + 1) (legsOf q))) lastCheck)))
+  left-step k l = each-step (legChecks R q) (legsOf q) k noLeg lastCheck l
 
   pub left-end : (k : ℕ) → length (legsOf q) ≤ k → left k ≡ cond (ltb mostFare (sum (partsOf R q))) (fault (refuse 16 0 0)) clean
   unfolding left lastCheck firstFault
