@@ -12,7 +12,7 @@ use borrow.Author.Tests.{leb-true}
 use Rattle.common.specs.Lists.{sum}
 use Rattle.common.specs.Checks.{refuse, Finding, clean, fault, Check, check, firstFault, eachFrom}
 use Rattle.common.specs.declared.Refusal.{Refusal}
-use Rattle.common.proofs.Tests.{both-true}
+use Rattle.common.proofs.Tests.{both-true, in-range}
 use Rattle.common.proofs.Lists.{every-at}
 use Rattle.common.proofs.Checks.{by-finding, as-found, orElse, fault-append, each-step, each-end}
 use Rattle.common.proofs.Sums.{sum-small}
@@ -41,8 +41,8 @@ asked q e =
     let leg : (k : ℕ) → k < length (legsOf q) → legInLimits (getD (legsOf q) k noLeg) ≡ true =
     λ k l. every-at legInLimits (legsOf q) (t 5 (omega arith)) k noLeg l in
     record {
-      persons = leb-true (q .persons) 99 (both-true (leb 1 (q .persons)) (leb (q .persons) 99) (t 2 (omega arith)) .1);
-      few = leb-true (q .count) 8 (both-true (leb 1 (q .count)) (leb (q .count) 8) (t 4 (omega arith)) .1);
+      persons = in-range 1 (q .persons) 99 (t 2 (omega arith)) .1;
+      few = in-range 1 (q .count) 8 (t 4 (omega arith)) .1;
       fares = λ k l.
           let x = getD (legsOf q) k noLeg in
           leb-true (x .fare) 999999 (both-true (between 1 9999 (x .railway)) (leb (x .fare) 999999) (leg k l) .1);
