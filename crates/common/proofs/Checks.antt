@@ -4,7 +4,7 @@ use Prim.Native.Nat.{ℕ, zero, suc, _+_, _≤_, _<_, suc-le-suc}
 use mathlib.Core.Path.{_≡_, refl, sym, _∙_, ap}
 use mathlib.Core.Bool.{Bool, true, false, cond}
 use mathlib.Core.Logic.{_⊎_, inl, inr, ⊎-elim}
-use mathlib.Core.List.{List, [], _∷_, _++_}
+use mathlib.Core.List.{List, [], _∷_, _++_, append-assoc}
 use native.Mathlib.Nat.{add-zero, le-of-suc-le-suc}
 use native.Mathlib.Omega.{arith}
 use native.Mathlib.Numerals.{add-one}
@@ -17,12 +17,13 @@ use Rattle.common.specs.declared.Refusal.{Refusal}
 use Rattle.common.proofs.Lists.{every-append}
 use Rattle.common.proofs.Tests.{both-true, either-false}
 
--- AN ANSWER TELLS WHAT WAS FOUND: nothing, and it is that of the work done; or a refusal, and it is that.
+-- AN ANSWER TELLS WHAT WAS FOUND: nothing, and it is that of the work done; or a refusal, and it tells that.
 module _ {A : Type 0} (refused : Refusal → A) where
   pub by-finding : (f : Finding) (a : A) {x : A} → unless refused f a ≡ x → ((f ≡ clean) × (a ≡ x)) ⊎ ((r : Refusal) × (f ≡ fault r) × (refused r ≡ x))
   by-finding clean a e = inl (refl, e)
   by-finding (fault r) a e = inr (r, refl, e)
 
+  -- the other way: a refusal that was made is the answer, if it is what was found
   pub as-found : {f : Finding} {r x : Refusal} (a : A) → f ≡ fault r → x ≡ r → refused x ≡ unless refused f a
   as-found a e q = ap refused q ∙ sym (rw e)
 
@@ -30,29 +31,25 @@ module _ {A : Type 0} (refused : Refusal → A) where
 abbrev pub orElse : Finding → Finding → Finding
 orElse f rest = unless fault f rest
 
--- one finding after another is one answer after another
-pub unless-else : {A : Type 0} (refused : Refusal → A) (f g : Finding) (a : A) → unless refused (orElse f g) a ≡ unless refused f (unless refused g a)
-unless-else refused clean g a = refl
-unless-else refused (fault r) g a = refl
-
 -- one list of checks after another
 pub fault-append : (a b : List Check) → firstFault (a ++ b) ≡ orElse (firstFault a) (firstFault b)
 unfolding firstFault
 fault-append [] b = refl
 fault-append (c ∷ a) b = go (c .fails) (fault-append a b)
   where
-    go : (t : Bool) {r : Finding} → r ≡ orElse (firstFault a) (firstFault b) → cond t (fault (c .tells)) r ≡ orElse (cond t (fault (c .tells)) (firstFault a)) (firstFault b)
+    go : (t : Bool) {r : Finding} → r ≡ orElse (firstFault a) (firstFault b)
+        → cond t (fault (c .tells)) r ≡ orElse (cond t (fault (c .tells)) (firstFault a)) (firstFault b)
     go true h = refl
     go false h = h
 
 module _ {A : Type 0} (f : ℕ → A → List Check) where
-  -- the checks of the element that is counted i, then those of the rest
-  pub each-step : (xs : List A) (i : ℕ) (d : A) → i < length xs
-      → firstFault (eachFrom i f (drop i xs)) ≡ orElse (firstFault (f i (getD xs i d))) (firstFault (eachFrom (i + 1) f (drop (i + 1) xs)))
+  -- the checks of the element that is counted i, then those of the rest, and what comes last
+  pub each-step : (xs : List A) (i : ℕ) (d : A) (last : List Check) → i < length xs
+      → firstFault (eachFrom i f (drop i xs) ++ last) ≡ orElse (firstFault (f i (getD xs i d))) (firstFault (eachFrom (i + 1) f (drop (i + 1) xs) ++ last))
   unfolding eachFrom
-  each-step xs i d h =
+  each-step xs i d last h =
       let e : drop i xs ≡ getD xs i d ∷ drop (i + 1) xs = rw (add-one, drop-cons xs i d h) in
-      rw e (fault-append (f i (getD xs i d)) (eachFrom (i + 1) f (drop (i + 1) xs)))
+      rw (e, append-assoc) (fault-append (f i (getD xs i d)) (eachFrom (i + 1) f (drop (i + 1) xs) ++ last))
 
   pub each-end : (xs : List A) (i : ℕ) → length xs ≤ i → eachFrom i f (drop i xs) ≡ []
   unfolding eachFrom

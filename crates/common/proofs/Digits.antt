@@ -8,13 +8,12 @@ use native.Mathlib.Nat.{add-zero, one-le-pow, pow-suc, suc-inj, lt-of-lt-of-le, 
 use native.Mathlib.Omega.{arith}
 use native.Mathlib.Numerals.{add-one}
 use lib.ListN.{length, getD, drop, drop-of-length-le}
-use lib.Dec.{leb, ltb}
+use lib.Dec.{ltb}
 use lib.Seq.{drop-cons}
-use borrow.Author.Tests.{leb-true}
 use Rattle.common.specs.declared.Num.{Num}
 use Rattle.common.specs.declared.Num.the-variants.{Is, Not}
-use Rattle.common.specs.Digits.{digitsAfter, numberOf, valueOf, isDigit, digit-0, digit-9}
-use Rattle.common.proofs.Tests.{both-true}
+use Rattle.common.specs.Digits.{digitsAfter, numberOf, valueOf, isDigit, isWithin, digit-0, digit-9}
+use Rattle.common.proofs.Tests.{never, in-range}
 
 pub digits-step : (v : ℕ) (s : List ℕ) (i : ℕ) → i < length s
     → digitsAfter v (drop i s) ≡ cond (isDigit (getD s i 0)) (digitsAfter (v * 10 + (getD s i 0 - digit-0)) (drop (i + 1) s)) Not
@@ -41,18 +40,13 @@ after-cond : (b : Bool) (x : Num) {n : ℕ} → 0 < n → (b ≡ true → valueO
 after-cond true x z f = f refl
 after-cond false x z f = z
 
-digit-is : (b : ℕ) → isDigit b ≡ true → (digit-0 ≤ b) × (b ≤ digit-9)
-digit-is b e =
-    let d = both-true (leb digit-0 b) (leb b digit-9) e in
-    (leb-true digit-0 b (d .0), leb-true b digit-9 (d .1))
-
 after-small : (s : List ℕ) (v i : ℕ) → v < 10 ^ i → valueOf (digitsAfter v s) < 10 ^ (i + length s)
 unfolding digitsAfter
 after-small [] v i h = rw add-zero h
 after-small (b ∷ s) v i h =
     after-cond (isDigit b) (digitsAfter (v * 10 + (b - digit-0)) s) (ten-pos (i + length (b ∷ s)))
     (λ e. let q : i + 1 + length s ≡ i + suc (length s) = omega arith in
-    rw (← q) (after-small s (v * 10 + (b - digit-0)) (i + 1) (grows v i (b - digit-0) h (omega (arith, digit-is b e)))))
+    rw (← q) (after-small s (v * 10 + (b - digit-0)) (i + 1) (grows v i (b - digit-0) h (omega (arith, in-range digit-0 b digit-9 e)))))
 
 cond-small : (b : Bool) (x : Num) {n : ℕ} → 0 < n → valueOf x < n → valueOf (cond b Not x) < n
 cond-small true x z h = z
@@ -63,6 +57,11 @@ unfolding numberOf
 number-small s k l =
     lt-of-lt-of-le (cond-small (ltb 9 (length s)) (digitsAfter 0 s) (ten-pos (0 + length s)) (after-small s 0 0 (omega arith)))
     (pow-le-pow-right {n = 10} (omega arith) {i = 0 + length s} {j = k} (omega arith))
+
+-- a number within limits
+pub within-value : (lowest highest : ℕ) (n : Num) → isWithin lowest highest n ≡ true → (lowest ≤ valueOf n) × (valueOf n ≤ highest)
+within-value lowest highest (Is v) e = in-range lowest v highest e
+within-value lowest highest Not e = never e refl
 
 -- what says a number starts with a digit, and has at most nine of them
 said : (b : Bool) (x : Num) {v : ℕ} → cond b x Not ≡ Is v → (b ≡ true) × (x ≡ Is v)
@@ -83,8 +82,8 @@ after-same (x ∷ a) (y ∷ b) u w l p q =
     let c = said (isDigit x) _ p in
     let d = said (isDigit y) _ q in
     let h = after-same a b _ _ (suc-inj l) (c .1) (d .1) in
-    let e = digit-is x (c .0) in
-    let f = digit-is y (d .0) in
+    let e = in-range digit-0 x digit-9 (c .0) in
+    let f = in-range digit-0 y digit-9 (d .0) in
     (omega arith, ap₂ _∷_ (omega arith) (h .1))
 
 -- Two lists of digits of one length that say the same number are the same.

@@ -6,7 +6,8 @@ use mathlib.Core.Logic.{_⊎_, inl, inr, ⊎-elim}
 use mathlib.Core.Bool.{Bool, true, false, not, _&&_, _||_}
 use native.Mathlib.Omega.{arith}
 use native.Mathlib.Decide.{decLt}
-use borrow.Author.Tests.{not-true, not-false}
+use lib.Dec.{leb}
+use borrow.Author.Tests.{not-true, not-false, leb-true}
 
 -- a call whose negation was tested
 pub fails : (r : Bool) {b : Bool} → not r ≡ true → r ≡ b → b ≡ false
@@ -22,6 +23,11 @@ never h e = let z : _≡_ {A = ℕ} 0 1 = cc in absurd (omega arith)
 pub both-true : (a b : Bool) → (a && b) ≡ true → (a ≡ true) × (b ≡ true)
 both-true true b e = (refl, e)
 both-true false b e = never e refl
+
+pub in-range : (lowest v highest : ℕ) → (leb lowest v && leb v highest) ≡ true → (lowest ≤ v) × (v ≤ highest)
+in-range lowest v highest e =
+    let b = both-true (leb lowest v) (leb v highest) e in
+    (leb-true lowest v (b .0), leb-true v highest (b .1))
 
 pub either-false : (a b : Bool) → (a || b) ≡ false → (a ≡ false) × (b ≡ false)
 either-false true b e = never refl e

@@ -1,7 +1,7 @@
 -- What each leg adds to the fare: the laws that the loop over the legs cites.
 -- Assumes nothing.
 use Prim.Native.Nat.{ℕ, _+_, _-_, _*_, _≤_, _<_}
-use mathlib.Core.Path.{_≡_, refl, sym, _∙_, ap}
+use mathlib.Core.Path.{_≡_}
 use mathlib.Core.Bool.{true, false, cond}
 use mathlib.Core.List.{List, [], _∷_, _++_, map}
 use mathlib.Core.Logic.{⊎-elim}
@@ -12,9 +12,9 @@ use borrow.Author.Tests.{leb-true}
 use Rattle.common.specs.Lists.{sum}
 use Rattle.common.specs.Checks.{refuse, Finding, clean, fault, Check, check, firstFault, eachFrom}
 use Rattle.common.specs.declared.Refusal.{Refusal}
-use Rattle.common.proofs.Tests.{both-true}
+use Rattle.common.proofs.Tests.{both-true, in-range}
 use Rattle.common.proofs.Lists.{every-at}
-use Rattle.common.proofs.Checks.{by-finding, as-found, orElse, unless-else, fault-append, each-step, each-end}
+use Rattle.common.proofs.Checks.{by-finding, as-found, orElse, fault-append, each-step, each-end}
 use Rattle.common.proofs.Sums.{sum-small}
 use Rattle.bundle.specs.Records.{Rec, recordsOf}
 use Rattle.bundle.specs.Verdict.{checks, verdictOf}
@@ -41,8 +41,8 @@ asked q e =
     let leg : (k : ℕ) → k < length (legsOf q) → legInLimits (getD (legsOf q) k noLeg) ≡ true =
     λ k l. every-at legInLimits (legsOf q) (t 5 (omega arith)) k noLeg l in
     record {
-      persons = leb-true (q .persons) 99 (both-true (leb 1 (q .persons)) (leb (q .persons) 99) (t 2 (omega arith)) .1);
-      few = leb-true (q .count) 8 (both-true (leb 1 (q .count)) (leb (q .count) 8) (t 4 (omega arith)) .1);
+      persons = in-range 1 (q .persons) 99 (t 2 (omega arith)) .1;
+      few = in-range 1 (q .count) 8 (t 4 (omega arith)) .1;
       fares = λ k l.
           let x = getD (legsOf q) k noLeg in
           leb-true (x .fare) 999999 (both-true (between 1 9999 (x .railway)) (leb (x .fare) 999999) (leg k l) .1);
@@ -74,10 +74,7 @@ module _ (R : List Rec) (q : Question) where
 
   pub left-step : (k : ℕ) → k < length (legsOf q) → left k ≡ orElse (firstFault (legChecks R q k (getD (legsOf q) k noLeg))) (left (k + 1))
   unfolding left
-  left-step k l =
-      fault-append (eachFrom k (legChecks R q) (drop k (legsOf q))) lastCheck
-      ∙ (rw (each-step (legChecks R q) (legsOf q) k noLeg l) (unless-else fault (firstFault (legChecks R q k (getD (legsOf q) k noLeg))) (firstFault (eachFrom (k + 1) (legChecks R q) (drop (k + 1) (legsOf q)))) (firstFault lastCheck))
-      ∙ ap (orElse (firstFault (legChecks R q k (getD (legsOf q) k noLeg)))) (sym (fault-append (eachFrom (k + 1) (legChecks R q) (drop (k + 1) (legsOf q))) lastCheck)))
+  left-step k l = each-step (legChecks R q) (legsOf q) k noLeg lastCheck l
 
   pub left-end : (k : ℕ) → length (legsOf q) ≤ k → left k ≡ cond (ltb mostFare (sum (partsOf R q))) (fault (refuse 16 0 0)) clean
   unfolding left lastCheck firstFault

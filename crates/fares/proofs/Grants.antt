@@ -7,14 +7,14 @@ use mathlib.Core.Bool.{Bool, true, false, cond}
 use mathlib.Core.List.{List, [], _∷_}
 use mathlib.Core.Logic.{inl, inr}
 use native.Mathlib.Omega.{arith}
-use lib.Dec.{eqb, leb, ltb}
+use lib.Dec.{eqb, ltb}
 use lib.ListN.{length}
-use borrow.Author.Tests.{eqb-true, ne-eqb, leb-true}
+use borrow.Author.Tests.{eqb-true, ne-eqb}
 use Rattle.common.specs.Lists.{every, byteAt}
-use Rattle.common.specs.Digits.{digitsAfter, numberOf, valueOf, isWithin}
-use Rattle.common.specs.declared.Num.{Num}
-use Rattle.common.specs.declared.Num.the-variants.{Is, Not}
+use Rattle.common.specs.Digits.{digitsAfter, numberOf, valueOf}
+use Rattle.common.specs.declared.Num.the-variants.{Not}
 use Rattle.common.proofs.Tests.{both-true}
+use Rattle.common.proofs.Digits.{within-value}
 use Rattle.layout.specs.Bytes.{byte-blank, byte-plus, byte-minus, byte-0, byte-N, isBlank}
 use Rattle.layout.specs.Tables.{CO, AR}
 use Rattle.layout.specs.Layout.{layout}
@@ -56,12 +56,6 @@ rounded-as-said r g amount =
     refl refl refl (g .one-of-four) (g .factor-used)
 
 -- FROM THE ROWS of the layout: a number within its limits, or blank, and a factor where it is used
-within-value : (lowest highest : ℕ) (v : Num) → isWithin lowest highest v ≡ true → (lowest ≤ valueOf v) × (valueOf v ≤ highest)
-within-value lowest highest (Is v) e =
-    let b = both-true (leb lowest v) (leb v highest) e in
-    (leb-true lowest v (b .0), leb-true v highest (b .1))
-within-value lowest highest Not e = let z : _≡_ {A = ℕ} 0 1 = cc in absurd (omega arith)
-
 blank-value : (s : List ℕ) → every isBlank s ≡ true → valueOf (numberOf s) ≡ 0
 unfolding every numberOf digitsAfter
 blank-value [] e = refl

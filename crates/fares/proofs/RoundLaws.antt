@@ -4,7 +4,7 @@ use Prim.Native.Nat.{ℕ, zero, suc, _+_, _-_, _*_, _/_, _%_, _≤_, _<_, zero-l
 use mathlib.Core.Path.{_≡_, refl, sym, ap}
 use mathlib.Core.Bool.{Bool, true, false, cond}
 use mathlib.Core.Logic.{⊎-elim}
-use native.Mathlib.Nat.{mul-assoc, mul-zero, zero-mul, div-eq-of-lt, suc-mul, mul-left-comm, div-add-mod', mod-lt, div-mul-le-self, le-div-iff-mul-le, mul-le-mul-right, lt-of-mul-lt-mul-right, le-antisymm, le-trans, le-of-lt, le-of-eq, le-refl}
+use native.Mathlib.Nat.{mul-assoc, mul-zero, suc-mul, mul-left-comm, div-add-mod', mod-lt, div-mul-le-self, le-div-iff-mul-le, mul-le-mul-right, lt-of-mul-lt-mul-right, le-antisymm, le-trans, le-of-lt, le-of-eq, le-refl}
 use native.Mathlib.Omega.{arith}
 use lib.Dec.{eqb}
 use Rattle.common.proofs.Tests.{order}
@@ -160,23 +160,18 @@ module _ (n m : ℕ) (h : n ≤ m) where
       (by-cases (eqb mode byte-0) _ _ _ _ (near-mono f) (by-cases (eqb mode byte-N) _ _ _ _ (near-mono 1) (le-refl 0))))
 
 -- NOTHING is rounded to nothing.
-small-quotient : (x w f : ℕ) → x < w → x / w * f ≡ 0
-small-quotient x w f h = rw (div-eq-of-lt h) (zero-mul f)
-
 up-zero : (f : ℕ) → upwards 0 f ≡ 0
 unfolding upwards
 up-zero zero = refl
-up-zero (suc g) = small-quotient (0 + (suc g * unit - 1)) (suc g * unit) (suc g) (omega arith)
+up-zero (suc g) = omega (arith, up-is 0 (suc g) (omega arith) .least 0 (omega arith))
 
 near-zero : (f : ℕ) → nearest 0 f ≡ 0
 unfolding nearest
 near-zero zero = refl
-near-zero (suc g) = small-quotient (2 * 0 + suc g * unit) (2 * (suc g * unit)) (suc g) (omega arith)
+near-zero (suc g) = omega (arith, near-is 0 (suc g) (omega arith) .near 0)
 
 down-zero : (f : ℕ) → downwards 0 f ≡ 0
-unfolding downwards
-down-zero zero = refl
-down-zero (suc g) = small-quotient 0 (suc g * unit) (suc g) (omega arith)
+down-zero f = omega (arith, down-small 0 f)
 
 pub rounded-zero : (mode f : ℕ) → rounded mode 0 f ≡ 0
 unfolding rounded

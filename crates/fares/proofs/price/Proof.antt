@@ -114,7 +114,8 @@ found c =
 returns : tie.Need-returns Inv-loop μ-loop
 returns c =
     let d = c .before .before in
-    c .refused .ensures ∙ no-fare _ _ (limits-fail _ _ (fails (d .before .in-limits .result) (d .if1 .taken) (d .before .in-limits .ensures))) (c .before .refuse .ensures)
+    c .refused .ensures
+    ∙ no-fare _ _ (limits-fail _ _ (fails (d .before .in-limits .result) (d .if1 .taken) (d .before .in-limits .ensures))) (c .before .refuse .ensures)
 
 loop-holds : tie.Need-loop-holds Inv-loop μ-loop
 unfolding sum

@@ -3,9 +3,7 @@
 use mathlib.Core.Path.{_≡_}
 use mathlib.Core.Bool.{true, and-true}
 use Rattle.common.specs.Lists.{every}
-use borrow.Author.Tests.{leb-true}
-use Rattle.common.proofs.Tests.{fails, holds, both-true}
-use lib.Dec.{leb}
+use Rattle.common.proofs.Tests.{fails, holds, in-range}
 use Rattle.layout.specs.Dates.{isDay}
 use Rattle.fares.specs.Question.{between, inLimits}
 use borrow.Author.Needs.{needs}
@@ -53,10 +51,6 @@ returns-5 c =
     let p = d .before .before in
     rw (offer-in (p .before .before .before .before), day-in (p .before .before), persons-in p, card-in d, fails (c .before .is-between4 .result) (c .if5 .taken) (c .before .is-between4 .ensures))
 
-legs-in-limits-requires : tie.Need-legs-in-limits-requires
-legs-in-limits-requires c κs = let n = c .before .before .before .before .before .before .before .before .before .before .before .before .args .q .count in
-    leb-true n 8 (both-true (leb 1 n) (leb n 8) (count-in (c .before .before)) .1)
-
 returns-6 : tie.Need-returns-6
 unfolding inLimits every
 returns-6 c =
@@ -69,4 +63,4 @@ pub in-limits-spec : {M : Type 1} → statement M
 in-limits-spec =
     tie.close (tie.spec
     (λ c κs. search needs) returns (λ c κs. search needs) returns-2 (λ c κs. search needs) returns-3 (λ c κs. search needs) returns-4
-    (λ c κs. search needs) returns-5 (λ c. search needs) legs-in-limits-requires returns-6)
+    (λ c κs. search needs) returns-5 (λ c. search needs) (λ c κs. in-range 1 _ 8 (count-in (c .before .before)) .1) returns-6)
