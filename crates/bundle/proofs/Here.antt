@@ -238,3 +238,12 @@ module _ (s : List ℕ) where
       let h = here-each j (omega arith) in
       let f = found-at (h .0) j (h .1) l (stepOf (drop (h .0) s)) refl .3 in
       rw (f .place) (f .body, omega (arith, f .starts, f .ends, f .inside))
+
+-- the first record stands at the start
+pub first-body : (s : List ℕ) → bodyAt s 0 ≡ getD (recordsOf s) 0 noRec .body
+first-body s = go (stepOf (drop 0 s)) refl
+  where
+    go : (v : Step) → stepOf (drop 0 s) ≡ v → bodyAt s 0 ≡ getD (recordsOf s) 0 noRec .body
+    go Unknown e = over-body s 0 (unknown e) ∙ sym (ap (λ R. getD R 0 noRec .body) (over-nil s 0 0 (here-start s) (unknown e)))
+    go Short e = over-body s 0 (short e) ∙ sym (ap (λ R. getD R 0 noRec .body) (over-nil s 0 0 (here-start s) (short e)))
+    go (Whole t start next) e = whole-stands s 0 0 (here-start s) t start next e .body

@@ -1,2 +1,6 @@
 pub mod Steps
 pub mod Here
+pub mod PassLaws
+pub mod ChoiceLaws
+pub mod CutAndJoin
+pub mod Meaning

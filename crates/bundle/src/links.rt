@@ -99,6 +99,16 @@ fn are_joined<'a>(join: u32, t: u32, r: &'a [u8], u: u32, q: &'a [u8]) -> bool
     railway_serves(r, q)
 }
 
+// Whether a record q is one that the record r wants by a link.
+fn serves_it<'a>(link: Link, t: u32, r: &'a [u8], u: u32, q: &'a [u8]) -> bool
+    ensures { λ b. ⌜ b ≡ serves link (rec t (now (r .entry))) (rec u (now (q .entry))) ⌝ }
+{
+    if u != link.wants {
+        return false;
+    }
+    are_joined(link.join, t, r, u, q)
+}
+
 // Whether some record of the bundle is one that a record of a table wants by a link.
 fn is_served<'a>(bundle: &'a [u8], link: Link, table: u32, r: &'a [u8]) -> bool
     ensures { λ b. ⌜ b ≡ any (serves link (rec table (now (r .entry)))) (recordsOf (now (bundle .entry))) ⌝ }
@@ -109,10 +119,8 @@ fn is_served<'a>(bundle: &'a [u8], link: Link, table: u32, r: &'a [u8]) -> bool
         let Step::Whole(t, start, next) = here else {
             return false;
         };
-        if t == link.wants {
-            if are_joined(link.join, table, r, t, &bundle[start..next]) {
-                return true;
-            }
+        if serves_it(link, table, r, t, &bundle[start..next]) {
+            return true;
         }
         at = next;
     }

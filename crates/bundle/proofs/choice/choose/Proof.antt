@@ -1,91 +1,75 @@
+-- `bundle::choice::choose` meets its contract. The loop's invariant: the loop stands at record j, none before it is the railway's own, and `general` is
+-- where the first before it that is for all railways stands.
+-- Assumes nothing.
+use Prim.Native.Nat.{ℕ, _+_, _-_}
+use mathlib.Core.Path.{_≡_, sym, _∙_, ap}
+use mathlib.Core.List.{List}
+use native.Mathlib.Omega.{arith}
+use lib.ListN.{length}
+use borrow.Author.Needs.{needs}
+use Rattle.common.specs.Least.{least}
+use Rattle.common.proofs.Least.{start as none-yet, more}
+use Rattle.bundle.specs.Helpers.{firstGeneral}
+use Rattle.bundle.proofs.Here.{Here, Stands, here-start, stands, over-there, over-count}
+use Rattle.bundle.proofs.ChoiceLaws.{own, general, fits-own, fits-not, fits-general, standing, standing-start, remembers, own-met, none-met}
 use Rattle.bundle.proofs.choice.choose.Statement.{statement}
 use Rattle.bundle.proofs.choice.choose.Tie as tie
-use Rattle.bundle.proofs.choice.choose.Reads as reads
-use Rattle.bundle.proofs.choice.choose.Lts as lts
-use Rattle.bundle.proofs.choice.first_general.Reads as first-general-reads
-use Rattle.bundle.proofs.choice.fit.Reads as fit-reads
-use Rattle.bundle.proofs.choice.on_day.Reads as on-day-reads
-use Rattle.bundle.proofs.walk.step_at.Reads as step-at-reads
 
 abbrev Inv-loop : tie.InvT-loop
-Inv-loop bundle wanted n general₀ at₀ general at = ?
+Inv-loop bundle wanted n general₀ at₀ general at = (j : ℕ) × Here bundle at j × (least (own bundle wanted) j ≡ j) × (general ≡ standing bundle wanted j)
 
 abbrev μ-loop : tie.MeasureT-loop
-μ-loop bundle wanted n general₀ at₀ general at = ?
+μ-loop bundle wanted n general₀ at₀ general at = length bundle - at
 
--- src/choice.rt:89:5
-loop-holds : tie.Need-loop-holds Inv-loop μ-loop
-loop-holds c = ?
+abbrev At : Type 0
+At = tie.At-loop Inv-loop μ-loop
 
--- src/choice.rt:90:13
-step-at-requires : tie.Need-step-at-requires Inv-loop μ-loop
-step-at-requires c κs = ?
+abbrev Known : Type 0
+Known = tie.After-known-told Inv-loop μ-loop
 
--- src/choice.rt:91:25
-enum-known-here : tie.Need-enum-known-here Inv-loop μ-loop
-enum-known-here c = ?
+abbrev bundle-of : At → List ℕ
+bundle-of l = l .before .before .args .bundle .now
 
--- src/choice.rt:92:13
-on-day-requires : tie.Need-on-day-requires Inv-loop μ-loop
-on-day-requires c κs = ?
+abbrev place : Known → At
+place k = k .before .before .before .before
 
--- src/choice.rt:92:13
+-- the record at hand
+found : (k : Known) → let g = k .before .here .given .0 in
+    Stands (bundle-of (place k)) (place k .loop .at) (place k .loop .inv .0) (g .0) (g .1 .0) (g .1 .1 .0)
+found k = stands _ _ _ (place k .loop .inv .1) (k .before .before .before .step-at .ensures) (k .before .here .given .1)
+
 returns : tie.Need-returns Inv-loop μ-loop
-returns c = ?
+returns c =
+    let f = c .before .before in
+    let l = f .before in
+    let i = l .loop .inv in
+    let o = over-there _ _ (f .step-at .result) (c .before .match .keys2) (f .step-at .ensures) in
+    c .on-day .ensures ∙ rw (i .3) (none-met _ _ (i .0) (over-count _ _ _ (i .1) o) (i .2))
 
--- src/choice.rt:94:36
-sub-fit : tie.Need-sub-fit Inv-loop μ-loop
-sub-fit c = ?
-
--- src/choice.rt:94:36
-part-fit-start : tie.Need-part-fit-start Inv-loop μ-loop
-part-fit-start c = ?
-
--- src/choice.rt:94:36
-part-fit-end : tie.Need-part-fit-end Inv-loop μ-loop
-part-fit-end c = ?
-
--- src/choice.rt:94:13
-fit-requires : tie.Need-fit-requires Inv-loop μ-loop
-fit-requires c κs = ?
-
--- src/choice.rt:96:13
-on-day-requires-2 : tie.Need-on-day-requires-2 Inv-loop μ-loop
-on-day-requires-2 c κs = ?
-
--- src/choice.rt:96:13
 returns-2 : tie.Need-returns-2 Inv-loop μ-loop
-returns-2 c = ?
+returns-2 c =
+    let f = c .before .before in
+    let k = f .before .before in
+    let i = place k .loop .inv in
+    c .on-day2 .ensures ∙ own-met _ _ _ (i .0) (found k) (i .2) (rw (found k .at) (fits-own _ _ (f .fit .ensures) (c .before .if1 .taken)))
 
--- src/choice.rt:98:9
-first-general-requires : tie.Need-first-general-requires Inv-loop μ-loop
-first-general-requires c κs = ?
-
--- src/choice.rt:89:5
-loop-less : tie.Need-loop-less Inv-loop μ-loop
-loop-less c = ?
-
--- src/choice.rt:89:5
 loop-again : tie.Need-loop-again Inv-loop μ-loop
-loop-again c = ?
+loop-again c =
+    let f = c .before .before in
+    let k = f .before .before in
+    let l = place k in
+    let i = l .loop .inv in
+    let n = c .before .if1 .left in (
+      i .0 + 1,
+      found k .then,
+      more _ (i .0) (i .2) (rw (found k .at) (fits-not _ _ (f .fit .ensures) n)),
+      c .first-general .ensures
+          ∙ (ap (λ x. firstGeneral (length (bundle-of l)) x (f .fit .result) (l .loop .at)) (i .3)
+          ∙ remembers _ _ _ (i .0) (i .1) (found k) (f .fit .result) (rw (found k .at) (fits-general _ _ (f .fit .ensures) n))),
+    )
 
 pub choose-spec : {M : Type 1} → statement M
 choose-spec =
-    tie.close
-    (tie.spec
-    Inv-loop
-    μ-loop
-    loop-holds
-    step-at-requires
-    enum-known-here
-    on-day-requires
-    returns
-    sub-fit
-    part-fit-start
-    part-fit-end
-    fit-requires
-    on-day-requires-2
-    returns-2
-    first-general-requires
-    loop-less
-    loop-again)
+    tie.close (tie.spec Inv-loop μ-loop (λ c. (0, here-start _, none-yet _, standing-start _ _)) (λ c κs. search needs) (λ c. search needs) (λ c κs. search needs)
+    returns (λ c. found c .ends) (λ c. omega (arith, found c .ends, found c .inside)) (λ c. found c .inside) (λ c κs. search needs) (λ c κs. search needs) returns-2
+    (λ c κs. search needs) (λ c. let w = found (c .before .before .before .before) in omega (arith, w .starts, w .ends, w .inside)) loop-again)

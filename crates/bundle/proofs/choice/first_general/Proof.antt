@@ -1,19 +1,12 @@
+-- `bundle::choice::first_general` meets its contract.
+-- Assumes nothing.
+use borrow.Author.Tests.{eq-eqb, ne-eqb}
+use Rattle.bundle.specs.Helpers.{firstGeneral}
 use Rattle.bundle.proofs.choice.first_general.Statement.{statement}
 use Rattle.bundle.proofs.choice.first_general.Tie as tie
-use Rattle.bundle.proofs.choice.first_general.Reads as reads
-use Rattle.bundle.proofs.choice.first_general.Lts as lts
-
--- src/choice.rt:58:9
-returns : tie.Need-returns
-returns c = ?
-
--- src/choice.rt:61:9
-returns-2 : tie.Need-returns-2
-returns-2 c = ?
-
--- src/choice.rt:54:1
-returns-3 : tie.Need-returns-3
-returns-3 c = ?
 
 pub first-general-spec : {M : Type 1} → statement M
-first-general-spec = tie.close (tie.spec returns returns-2 returns-3)
+unfolding firstGeneral
+first-general-spec =
+    tie.close (tie.spec (λ c. rw (ne-eqb _ _ (c .if1 .taken))) (λ c. rw (eq-eqb _ _ (c .before .if1 .left), eq-eqb _ _ (c .if2 .taken)))
+    (λ c. rw (eq-eqb _ _ (c .before .if1 .left), ne-eqb _ _ (c .if2 .left))))

@@ -1,30 +1,23 @@
+-- `bundle::choice::on_day` meets its contract.
+-- Assumes nothing.
 use borrow.Author.Needs.{needs}
+use borrow.Author.Tests.{le-leb, lt-leb}
+use Rattle.bundle.specs.Helpers.{onDayAt}
 use Rattle.bundle.proofs.choice.on_day.Statement.{statement}
 use Rattle.bundle.proofs.choice.on_day.Tie as tie
-use Rattle.bundle.proofs.choice.on_day.Reads as reads
-use Rattle.bundle.proofs.choice.on_day.Lts as lts
-use Rattle.bundle.proofs.walk.body_at.Reads as body-at-reads
-use Rattle.layout.proofs.fields.holds_day.Reads as holds-day-reads
 
--- src/choice.rt:71:9
-returns : tie.Need-returns
-returns c = ?
-
--- src/choice.rt:75:9
-body-at-requires : tie.Need-body-at-requires
-body-at-requires c κs = search needs
-
--- src/choice.rt:73:8
-holds-day-requires : tie.Need-holds-day-requires
-holds-day-requires c κs = search needs
-
--- src/choice.rt:78:9
 returns-2 : tie.Need-returns-2
-returns-2 c = ?
+unfolding onDayAt
+returns-2 c =
+    let h = c .before in
+    rw (lt-leb _ _ (h .before .before .if1 .left), ← h .before .body-at .ensures, ← h .holds-day .ensures, c .if2 .taken)
 
--- src/choice.rt:67:1
 returns-3 : tie.Need-returns-3
-returns-3 c = ?
+unfolding onDayAt
+returns-3 c =
+    let h = c .before in
+    rw (lt-leb _ _ (h .before .before .if1 .left), ← h .before .body-at .ensures, ← h .holds-day .ensures, c .if2 .left)
 
 pub on-day-spec : {M : Type 1} → statement M
-on-day-spec = tie.close (tie.spec returns body-at-requires holds-day-requires returns-2 returns-3)
+unfolding onDayAt
+on-day-spec = tie.close (tie.spec (λ c. rw (le-leb _ _ (c .if1 .taken))) (λ c κs. search needs) (λ c κs. search needs) returns-2 returns-3)

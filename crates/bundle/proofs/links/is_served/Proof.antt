@@ -1,84 +1,56 @@
+-- `bundle::links::is_served` meets its contract. The loop's invariant: the loop stands at record i, and the records from it on decide.
+-- Assumes nothing.
+use Prim.Native.Nat.{ℕ, _+_, _-_}
+use mathlib.Core.Path.{_≡_, refl, sym, _∙_}
+use mathlib.Core.Bool.{_||_}
+use native.Mathlib.Omega.{arith}
+use lib.ListN.{length, drop}
+use borrow.Author.Needs.{needs}
+use Rattle.common.specs.Lists.{any}
+use Rattle.bundle.specs.Records.{rec, recordsOf}
+use Rattle.bundle.specs.Links.{serves}
+use Rattle.bundle.proofs.Here.{Here, Stands, here-start, stands, over-there, over-nil}
 use Rattle.bundle.proofs.links.is_served.Statement.{statement}
 use Rattle.bundle.proofs.links.is_served.Tie as tie
-use Rattle.bundle.proofs.links.is_served.Reads as reads
-use Rattle.bundle.proofs.links.is_served.Lts as lts
-use Rattle.bundle.proofs.links.are_joined.Reads as are-joined-reads
-use Rattle.bundle.proofs.walk.step_at.Reads as step-at-reads
 
 abbrev Inv-loop : tie.InvT-loop
-Inv-loop bundle link table r at₀ at = ?
+Inv-loop bundle link table r at₀ at =
+    (i : ℕ) × Here bundle at i × (any (serves link (rec table r)) (recordsOf bundle) ≡ any (serves link (rec table r)) (drop i (recordsOf bundle)))
 
 abbrev μ-loop : tie.MeasureT-loop
-μ-loop bundle link table r at₀ at = ?
+μ-loop bundle link table r at₀ at = length bundle - at
 
--- src/links.rt:107:5
-loop-holds : tie.Need-loop-holds Inv-loop μ-loop
-loop-holds c = ?
+abbrev Known : Type 0
+Known = tie.After-known-told Inv-loop μ-loop
 
--- src/links.rt:108:13
-step-at-requires : tie.Need-step-at-requires Inv-loop μ-loop
-step-at-requires c κs = ?
+abbrev place : Known → tie.At-loop Inv-loop μ-loop
+place k = k .before .before .before .before
 
--- src/links.rt:109:25
-enum-known-here : tie.Need-enum-known-here Inv-loop μ-loop
-enum-known-here c = ?
+-- the record at hand
+found : (k : Known) → let g = k .before .here .given .0 in
+    Stands (place k .before .before .before .args .bundle .now) (place k .loop .at) (place k .loop .inv .0) (g .0) (g .1 .0) (g .1 .1 .0)
+found k = stands _ _ _ (place k .loop .inv .1) (k .before .before .before .step-at .ensures) (k .before .here .given .1)
 
--- src/links.rt:110:13
+-- it decides, or those after it
+turn : (c : tie.After-serves-it Inv-loop μ-loop) → let l = place (c .before .before) in
+    let a = l .before .before .before .args in
+    let p = serves (a .link) (rec (a .table) (a .r .now)) in
+    any p (recordsOf (a .bundle .now)) ≡ (c .serves-it .result || any p (drop (l .loop .inv .0 + 1) (recordsOf (a .bundle .now))))
+unfolding any
+turn c = let k = c .before .before in place k .loop .inv .2 ∙ rw (found k .cons, c .serves-it .ensures)
+
 returns : tie.Need-returns Inv-loop μ-loop
-returns c = ?
+unfolding any
+returns c =
+    let f = c .before in
+    let i = f .before .loop .inv in
+    sym (i .2 ∙ rw (over-nil _ _ _ (i .1) (over-there _ _ (f .step-at .result) (c .match .keys2) (f .step-at .ensures))))
 
--- src/links.rt:113:51
-sub-are-joined : tie.Need-sub-are-joined Inv-loop μ-loop
-sub-are-joined c = ?
-
--- src/links.rt:113:51
-part-are-joined-start : tie.Need-part-are-joined-start Inv-loop μ-loop
-part-are-joined-start c = ?
-
--- src/links.rt:113:51
-part-are-joined-end : tie.Need-part-are-joined-end Inv-loop μ-loop
-part-are-joined-end c = ?
-
--- src/links.rt:113:16
-are-joined-requires : tie.Need-are-joined-requires Inv-loop μ-loop
-are-joined-requires c κs = ?
-
--- src/links.rt:114:17
-returns-2 : tie.Need-returns-2 Inv-loop μ-loop
-returns-2 c = ?
-
--- src/links.rt:107:5
-loop-less : tie.Need-loop-less Inv-loop μ-loop
-loop-less c = ?
-
--- src/links.rt:107:5
 loop-again : tie.Need-loop-again Inv-loop μ-loop
-loop-again c = ?
-
--- src/links.rt:107:5
-loop-less-2 : tie.Need-loop-less-2 Inv-loop μ-loop
-loop-less-2 c = ?
-
--- src/links.rt:107:5
-loop-again-2 : tie.Need-loop-again-2 Inv-loop μ-loop
-loop-again-2 c = ?
+loop-again c = let k = c .before .before .before in (place k .loop .inv .0 + 1, found k .then, turn (c .before) ∙ rw (c .if1 .left))
 
 pub is-served-spec : {M : Type 1} → statement M
 is-served-spec =
-    tie.close
-    (tie.spec
-    Inv-loop
-    μ-loop
-    loop-holds
-    step-at-requires
-    enum-known-here
-    returns
-    sub-are-joined
-    part-are-joined-start
-    part-are-joined-end
-    are-joined-requires
-    returns-2
-    loop-less
-    loop-again
-    loop-less-2
-    loop-again-2)
+    tie.close (tie.spec Inv-loop μ-loop (λ c. (0, here-start _, refl)) (λ c κs. search needs) (λ c. search needs) returns
+    (λ c. found c .ends) (λ c. omega (arith, found c .ends, found c .inside)) (λ c. found c .inside) (λ c κs. search needs)
+    (λ c. sym (turn (c .before) ∙ rw (c .if1 .taken))) (λ c. let w = found (c .before .before .before) in omega (arith, w .starts, w .ends, w .inside)) loop-again)

@@ -1,35 +1,32 @@
+-- `bundle::links::link_at` meets its contract: antt computes that the code's rows are the definition's.
+-- Assumes nothing.
+use Prim.Native.Nat.{ℕ, zero, suc}
+use mathlib.Core.Path.{_≡_, refl, sym, _∙_}
+use mathlib.Core.List.{List, [], _∷_, map}
+use native.Mathlib.Omega.{arith}
+use lib.ListN.{getD, List·getD-eq-default}
 use borrow.Author.Needs.{needs}
+use Rattle.bundle.specs.Links.{linkRows, noLink}
+use Rattle.bundle.specs.Helpers.{asLink}
+use Rattle.bundle.specs.declared.links.Link.{Link}
 use Rattle.bundle.proofs.links.link_at.Statement.{statement}
 use Rattle.bundle.proofs.links.link_at.Tie as tie
-use Rattle.bundle.proofs.links.link_at.Reads as reads
-use Rattle.bundle.proofs.links.link_at.Lts as lts
-use Rattle.bundle.proofs.links.named.Reads as named-reads
 
--- src/links.rt:41:9
-named-requires : tie.Need-named-requires
-named-requires c κs = search needs
+abbrev linkNumbers : Link → List ℕ
+linkNumbers l = l .table ∷ l .flag ∷ l .wants ∷ l .join ∷ l .detail ∷ []
 
--- src/links.rt:41:9
+as-said : (ls : List Link) (k : ℕ) → asLink (getD (map linkNumbers ls) k []) ≡ getD ls k noLink
+as-said [] k = refl
+as-said (l ∷ ls) zero = refl
+as-said (l ∷ ls) (suc k) = as-said ls k
+
 returns : tie.Need-returns
-returns c = ?
+unfolding linkRows
+returns c = c .named .ensures ∙ sym (List·getD-eq-default linkRows noLink {n = c .before .before .args .k} (omega arith))
 
--- src/links.rt:43:11
-mul-named : tie.Need-mul-named
-mul-named c = search needs
-
--- src/links.rt:43:11
-array-copy-out-named : tie.Need-array-copy-out-named
-array-copy-out-named c = search needs
-
--- src/links.rt:43:5
-named-requires-2 : tie.Need-named-requires-2
-named-requires-2 c κs = search needs
-
--- src/links.rt:37:1
 returns-2 : tie.Need-returns-2
-returns-2 c = ?
+unfolding linkRows
+returns-2 c = c .named2 .ensures ∙ as-said linkRows (c .before .before .before .args .k)
 
 pub link-at-spec : {M : Type 1} → statement M
-link-at-spec =
-    tie.close
-    (tie.spec named-requires returns mul-named array-copy-out-named named-requires-2 returns-2)
+link-at-spec = tie.close (tie.spec (λ c κs. search needs) returns (λ c. search needs) (λ c. search needs) (λ c κs. search needs) returns-2)

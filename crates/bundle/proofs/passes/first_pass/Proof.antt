@@ -1,127 +1,85 @@
+-- `bundle::passes::first_pass` meets its contract. The loop's invariant: the loop stands at record i, and the pass finds what it finds from there on.
+-- Assumes nothing.
+use Prim.Native.Nat.{ℕ, _-_}
+use mathlib.Core.Path.{_≡_, sym, _∙_}
+use mathlib.Core.List.{List}
+use native.Mathlib.Omega.{arith}
+use lib.ListN.{length}
+use borrow.Author.Needs.{needs}
+use Rattle.common.specs.Checks.{firstFault}
+use Rattle.common.proofs.Checks.{as-found}
+use Rattle.layout.specs.Rules.{brokenField}
+use Rattle.bundle.specs.Records.{between}
+use Rattle.bundle.specs.Verdict.{firstPass}
+use Rattle.bundle.specs.declared.Judgement.the-variants.{Refused}
+use Rattle.bundle.proofs.Here.{Here, Stands, here-start, stands, unknown-there, short-there}
+use Rattle.bundle.proofs.PassLaws.{firstFrom, first-start, first-unknown, first-short, first-end, found-field, field-fault, fields-pass}
 use Rattle.bundle.proofs.passes.first_pass.Statement.{statement}
 use Rattle.bundle.proofs.passes.first_pass.Tie as tie
-use Rattle.bundle.proofs.passes.first_pass.Reads as reads
-use Rattle.bundle.proofs.passes.first_pass.Lts as lts
-use Rattle.bundle.proofs.walk.step_at.Reads as step-at-reads
-use Rattle.common.proofs.refuse.Reads as refuse-reads
-use Rattle.layout.proofs.rows.all.Reads as all-reads
-use Rattle.layout.proofs.rows.broken_field.Reads as broken-field-reads
-use Rattle.layout.proofs.rows.of_table.Reads as of-table-reads
 
 abbrev Inv-loop : tie.InvT-loop
-Inv-loop bundle rows n at₀ i₀ at i = ?
+Inv-loop bundle rows n at₀ i₀ at i = Here bundle at i × (firstFault (firstPass bundle) ≡ firstFrom bundle i)
 
 abbrev μ-loop : tie.MeasureT-loop
-μ-loop bundle rows n at₀ i₀ at i = ?
+μ-loop bundle rows n at₀ i₀ at i = length bundle - at
 
--- src/passes.rt:14:16
-all-requires : tie.Need-all-requires Inv-loop μ-loop
-all-requires c κs = ?
+abbrev Known : Type 0
+Known = tie.After-known-told Inv-loop μ-loop
 
--- src/passes.rt:18:5
-loop-holds : tie.Need-loop-holds Inv-loop μ-loop
-loop-holds c = ?
+abbrev bundle-of : tie.At-loop Inv-loop μ-loop → List ℕ
+bundle-of l = l .before .before .before .args .bundle .now
 
--- src/passes.rt:19:13
-step-at-requires : tie.Need-step-at-requires Inv-loop μ-loop
-step-at-requires c κs = ?
+abbrev place : Known → tie.At-loop Inv-loop μ-loop
+place k = k .before .before .before .before .before
 
--- src/passes.rt:22:43
-enum-told : tie.Need-enum-told Inv-loop μ-loop
-enum-told c = ?
+-- the record at hand, and the first field of it that breaks its rule
+found : (k : Known) → let g = k .before .here .given .0 in
+    Stands (bundle-of (place k)) (place k .loop .at) (place k .loop .i) (g .0) (g .1 .0) (g .1 .1 .0)
+found k = stands _ _ _ (place k .loop .inv .0) (k .before .before .before .step-at .ensures) (k .before .here .given .1)
 
--- src/passes.rt:22:43
-refuse-requires : tie.Need-refuse-requires Inv-loop μ-loop
-refuse-requires c κs = ?
+broken : (c : tie.After-broken-field Inv-loop μ-loop) → let k = c .before .before .before .before in
+    let g = k .before .here .given .0 in
+    c .broken-field .result ≡ brokenField (g .0) (between (g .1 .0) (g .1 .1 .0) (bundle-of (place k)))
+broken c =
+    let o = c .before .before in
+    found-field _ _ (place (o .before .before) .before .all .ensures) (o .of-table .ensures) (c .broken-field .ensures)
 
--- src/passes.rt:22:17
 returns : tie.Need-returns Inv-loop μ-loop
-returns c = ?
+returns c =
+    let f = c .before .before .before in
+    let l = f .before .before in
+    as-found Refused _ (l .loop .inv .1 ∙ first-unknown _ _ _ (l .loop .inv .0) (f .before .loop-test .taken) (unknown-there _ _ (f .step-at .ensures) (c .before .enum-told .given .1))) (c .refuse .ensures)
 
--- src/passes.rt:25:43
-enum-told-2 : tie.Need-enum-told-2 Inv-loop μ-loop
-enum-told-2 c = ?
-
--- src/passes.rt:25:43
-refuse-requires-2 : tie.Need-refuse-requires-2 Inv-loop μ-loop
-refuse-requires-2 c κs = ?
-
--- src/passes.rt:25:17
 returns-2 : tie.Need-returns-2 Inv-loop μ-loop
-returns-2 c = ?
+returns-2 c =
+    let f = c .before .before .before in
+    let l = f .before .before in
+    as-found Refused _ (l .loop .inv .1 ∙ first-short _ _ _ (l .loop .inv .0) (f .before .loop-test .taken) (short-there _ _ (f .step-at .ensures) (c .before .enum-told2 .given .1))) (c .refuse2 .ensures)
 
--- src/passes.rt:27:25
-enum-known-here : tie.Need-enum-known-here Inv-loop μ-loop
-enum-known-here c = ?
-
--- src/passes.rt:29:21
-of-table-requires : tie.Need-of-table-requires Inv-loop μ-loop
-of-table-requires c κs = ?
-
--- src/passes.rt:30:21
-sub-broken-field : tie.Need-sub-broken-field Inv-loop μ-loop
-sub-broken-field c = ?
-
--- src/passes.rt:30:21
-part-broken-field-start : tie.Need-part-broken-field-start Inv-loop μ-loop
-part-broken-field-start c = ?
-
--- src/passes.rt:30:21
-part-broken-field-end : tie.Need-part-broken-field-end Inv-loop μ-loop
-part-broken-field-end c = ?
-
--- src/passes.rt:28:21
-broken-field-requires : tie.Need-broken-field-requires Inv-loop μ-loop
-broken-field-requires c κs = ?
-
--- src/passes.rt:33:47
-refuse-requires-3 : tie.Need-refuse-requires-3 Inv-loop μ-loop
-refuse-requires-3 c κs = ?
-
--- src/passes.rt:33:21
 returns-3 : tie.Need-returns-3 Inv-loop μ-loop
-returns-3 c = ?
+returns-3 c =
+    let b = c .before .before in
+    let k = b .before .before .before .before in
+    let l = place k in
+    as-found Refused _ (l .loop .inv .1 ∙ field-fault _ _ _ (l .loop .inv .0) (found k) (broken b) (c .before .if1 .taken)) (c .refuse3 .ensures)
 
--- src/passes.rt:36:17
-add-i : tie.Need-add-i Inv-loop μ-loop
-add-i c = ?
-
--- src/passes.rt:18:5
-loop-less : tie.Need-loop-less Inv-loop μ-loop
-loop-less c = ?
-
--- src/passes.rt:18:5
 loop-again : tie.Need-loop-again Inv-loop μ-loop
-loop-again c = ?
+loop-again c =
+    let k = c .before .before .before .before .before in
+    let l = place k in
+    (found k .then, l .loop .inv .1 ∙ fields-pass _ _ _ (l .loop .inv .0) (found k) (broken (c .before)) (c .if1 .left))
 
--- src/passes.rt:11:1
 returns-4 : tie.Need-returns-4 Inv-loop μ-loop
-returns-4 c = ?
+returns-4 c =
+    let l = c .before in
+    let e = first-end _ _ _ (l .loop .inv .0) (c .loop-test .left) in
+    sym (rw (l .loop .inv .1 ∙ e .0, e .1))
 
 pub first-pass-spec : {M : Type 1} → statement M
 first-pass-spec =
-    tie.close
-    (tie.spec
-    Inv-loop
-    μ-loop
-    all-requires
-    loop-holds
-    step-at-requires
-    enum-told
-    refuse-requires
-    returns
-    enum-told-2
-    refuse-requires-2
-    returns-2
-    enum-known-here
-    of-table-requires
-    sub-broken-field
-    part-broken-field-start
-    part-broken-field-end
-    broken-field-requires
-    refuse-requires-3
-    returns-3
-    add-i
-    loop-less
-    loop-again
-    returns-4)
+    tie.close (tie.spec Inv-loop μ-loop (λ c κs. search needs) (λ c. (here-start _, first-start _)) (λ c κs. search needs) (λ c. search needs) (λ c κs. search needs) returns
+    (λ c. search needs) (λ c κs. search needs) returns-2 (λ c. search needs) (λ c κs. search needs)
+    (λ c. found (c .before .before) .ends) (λ c. let w = found (c .before .before) in omega (arith, w .ends, w .inside)) (λ c. found (c .before .before) .inside)
+    (λ c κs. search needs) (λ c κs. search needs) returns-3
+    (λ c. let k = c .before .before .before .before .before in omega (arith, found k .starts, found k .ends, found k .inside, place k .loop .inv .0 .counted))
+    (λ c. let w = found (c .before .before .before .before .before) in omega (arith, w .starts, w .ends, w .inside)) loop-again returns-4)

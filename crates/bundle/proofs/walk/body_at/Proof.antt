@@ -1,7 +1,9 @@
 -- `bundle::walk::body_at` meets its contract.
 -- Assumes nothing.
+use Prim.Native.Nat.{_≤_}
 use mathlib.Core.Path.{sym, _∙_}
 use native.Mathlib.Omega.{arith}
+use lib.ListN.{length}
 use borrow.Author.Needs.{needs}
 use Rattle.bundle.proofs.Here.{over-there, over-body, step-lies, step-body}
 use Rattle.bundle.proofs.walk.body_at.Statement.{statement}
@@ -13,11 +15,11 @@ returns c =
     let a = f .before .before .args in
     c .part .ensures ∙ sym (over-body (a .bundle .now) (a .place) (over-there (a .bundle .now) (a .place) (f .step-at .result) (c .before .match .keys2) (f .step-at .ensures)))
 
-lies : (c : tie.After-known-told) → ?
-lies c =
-    let f = c .before .before .before in
-    step-lies _ _ (f .step-at .ensures) (c .before .here .given .1)
+lies : (c : tie.After-known-told) → let g = c .before .here .given .0 in
+    (g .1 .0 ≤ g .1 .1 .0) × (g .1 .1 .0 ≤ length (c .before .before .before .before .before .args .bundle .now))
+lies c = step-lies _ _ (c .before .before .before .step-at .ensures) (c .before .here .given .1)
 
 pub body-at-spec : {M : Type 1} → statement M
 body-at-spec =
-    tie.close (tie.spec (λ c κs. search needs) (λ c. search needs) (λ c κs. search needs) returns (λ c. ?) (λ c. ?) (λ c. ?) (λ c. ?))
+    tie.close (tie.spec (λ c κs. search needs) (λ c. search needs) (λ c κs. search needs) returns (λ c. lies c .0) (λ c. omega (arith, lies c)) (λ c. lies c .1)
+    (λ c. step-body _ _ (c .before .before .before .before .step-at .ensures) (c .before .before .here .given .1)))

@@ -1,20 +1,15 @@
 -- `bundle::walk::step_at` meets its contract. A known mark has two bytes, so that the body starts in the bundle.
 -- Assumes nothing.
-use Prim.Native.Nat.{_+_, _-_, _≤_}
-use mathlib.Core.Path.{_≡_, ap}
+use Prim.Native.Nat.{_+_, _≤_}
 use native.Mathlib.Omega.{arith}
 use lib.ListN.{length, drop, length-drop}
 use borrow.Author.Needs.{needs}
-use borrow.Author.Tests.{le-leb, lt-leb, lt-ltb, le-ltb}
-use Rattle.layout.specs.Layout.{lengthOf}
-use Rattle.bundle.specs.Records.{stepOf}
-use Rattle.bundle.specs.Helpers.{moved, stepAt}
 use Rattle.bundle.proofs.Steps.{known-long, step-unknown, step-short, step-whole}
 use Rattle.bundle.proofs.walk.step_at.Statement.{statement}
 use Rattle.bundle.proofs.walk.step_at.Tie as tie
 
 returns : tie.Need-returns
-returns c = ?
+returns c = step-unknown _ _ (c .before .table-at .ensures) (c .if1 .taken)
 
 -- the mark stands in the bundle
 fits : (c : tie.Else1) → let a = c .before .before .before .args in a .at + 2 ≤ length (a .bundle .now)
@@ -23,10 +18,14 @@ fits c =
     omega (arith, length-drop (a .at) (a .bundle .now), known-long (drop (a .at) (a .bundle .now)) (rw (← c .before .table-at .ensures) (c .if1 .left)))
 
 returns-2 : tie.Need-returns-2
-returns-2 c = ?
+returns-2 c =
+    let e = c .before .before in
+    step-short _ _ (e .before .table-at .ensures) (e .if1 .left) (c .before .length-of .ensures) (fits e) (c .if2 .taken)
 
 returns-3 : tie.Need-returns-3
-returns-3 c = ?
+returns-3 c =
+    let e = c .before .before in
+    step-whole _ _ (e .before .table-at .ensures) (e .if1 .left) (c .before .length-of .ensures) (fits e) (c .if2 .left)
 
 pub step-at-spec : {M : Type 1} → statement M
 step-at-spec =
