@@ -16,14 +16,16 @@ use Rattle.common.proofs.Tests.{both-true, in-range}
 use Rattle.common.proofs.Lists.{every-at}
 use Rattle.common.proofs.Checks.{by-finding, as-found, orElse, fault-append, each-step, each-end}
 use Rattle.common.proofs.Sums.{sum-small}
+use Rattle.layout.specs.Company.{isRailway}
 use Rattle.bundle.specs.Records.{Rec, recordsOf}
 use Rattle.bundle.specs.Verdict.{checks, verdictOf}
 use Rattle.bundle.specs.declared.Judgement.the-variants as verdict
 use Rattle.bundle.proofs.PassLaws.{is-fault, is-clean}
-use Rattle.fares.specs.Question.{between, legInLimits, noLeg, legsOf, limitsOf, inLimits}
+use Rattle.fares.specs.Question.{legInLimits, noLeg, legsOf, limitsOf, inLimits}
 use Rattle.fares.specs.Reductions.{partBound}
-use Rattle.fares.specs.Legs.{legChecks, partOf, chosenBody, conditionsFor, answered}
-use Rattle.fares.specs.Fare.{partsOf, mostFare, priceChecks, fareChecks, noFare, quoted, priceOf, fareOf}
+use Rattle.fares.specs.Legs.{legChecks, partOf}
+use Rattle.fares.specs.Fare.{partsOf, mostFare, priceChecks, fareChecks, noFare, quoted, fareOf}
+use Rattle.fares.specs.Helpers.{answered, answerOf, priceOf}
 use Rattle.fares.specs.declared.Question.{Question}
 use Rattle.fares.specs.declared.legs.Priced.the-variants.{Part, Refused}
 use Rattle.fares.proofs.LegLaws.{leg-small}
@@ -45,7 +47,7 @@ asked q e =
       few = in-range 1 (q .count) 8 (t 4 (omega arith)) .1;
       fares = λ k l.
           let x = getD (legsOf q) k noLeg in
-          leb-true (x .fare) 999999 (both-true (between 1 9999 (x .railway)) (leb (x .fare) 999999) (leg k l) .1);
+          leb-true (x .fare) 999999 (both-true (isRailway (x .railway)) (leb (x .fare) 999999) (leg k l) .1);
     }
 
 -- an answer tells what was found
@@ -92,9 +94,7 @@ module _ (R : List Rec) (q : Question) where
   -- the parts are small
   module _ (a : Asked q) where
     pub part-small : (k : ℕ) → k < length (legsOf q) → partOf R q (getD (legsOf q) k noLeg) ≤ partBound
-    part-small k l =
-        let leg = getD (legsOf q) k noLeg in
-        leg-small R q leg (chosenBody R (conditionsFor R q leg)) (a .fares k l) (a .persons)
+    part-small k l = leg-small R q (getD (legsOf q) k noLeg) (a .fares k l) (a .persons)
 
     pub sum-of-parts : (k : ℕ) → k ≤ length (legsOf q) → sum (map (partOf R q) (take k (legsOf q))) ≤ k * partBound
     sum-of-parts k l = sum-small (partOf R q) (legsOf q) noLeg partBound k l (λ j h. part-small j (omega arith))

@@ -2,7 +2,7 @@
 -- factor where it is used: so each step is rounded as its record says.
 -- Assumes nothing.
 use Prim.Native.Nat.{ℕ, _-_, _*_, _≤_, _<_}
-use mathlib.Core.Path.{_≡_, refl, sym}
+use mathlib.Core.Path.{_≡_, refl}
 use mathlib.Core.Bool.{Bool, true, false, cond}
 use mathlib.Core.List.{List, [], _∷_}
 use mathlib.Core.Logic.{inl, inr}
@@ -10,27 +10,29 @@ use native.Mathlib.Omega.{arith}
 use lib.Dec.{eqb, ltb}
 use lib.ListN.{length}
 use borrow.Author.Tests.{eqb-true, ne-eqb}
-use Rattle.common.specs.Lists.{every, byteAt}
+use Rattle.common.specs.Lists.{every, any}
 use Rattle.common.specs.Digits.{digitsAfter, numberOf, valueOf}
 use Rattle.common.specs.declared.Num.the-variants.{Not}
 use Rattle.common.proofs.Tests.{both-true}
 use Rattle.common.proofs.Digits.{within-value}
 use Rattle.layout.specs.Bytes.{byte-blank, byte-plus, byte-minus, byte-0, byte-N, isBlank}
-use Rattle.layout.specs.Tables.{CO, AR}
-use Rattle.layout.specs.Layout.{layout}
-use Rattle.layout.specs.Rules.{isRounding, numberOrBlank, factorRule, fieldAt, ruled, obeysRow}
+use Rattle.layout.specs.Layout.{CO, AR, tableAt, tables, co, ar}
+use Rattle.layout.specs.Fields.{rowWith, rowOf, bytesOf, byteOf, numberIn, grantIn}
+use Rattle.layout.specs.Rules.{isRounding, numberOrBlank, factorRule, ruled, obeysRow}
+use Rattle.layout.specs.declared.rows.Row.{Row}
+use Rattle.layout.specs.declared.fields.Grant.{Grant}
+use Rattle.layout.proofs.Tables.{keeps-field}
 use Rattle.bundle.specs.Records.{Rec}
-use Rattle.bundle.specs.Meaning.{KeepsRows}
+use Rattle.bundle.specs.Meaning.{KeepsRules}
 use Rattle.fares.specs.Rounding.{unit, rounded, IsRounded}
-use Rattle.fares.specs.Reductions.{reductionAt, conditionsGrant, cardGrants, reduceBy}
-use Rattle.fares.specs.declared.reductions.Reduction.{Reduction}
+use Rattle.fares.specs.Reductions.{conditionsGrant, cardGrants, reduceBy}
 use Rattle.fares.proofs.RoundLaws.{up-is, down-is, near-is}
 
 -- what a record may grant
-pub record Lawful (r : Reduction) : Type 0 where
-  pub at-most-whole : r .discount ≤ unit
-  pub one-of-four : isRounding (r .mode) ≡ true
-  pub factor-used : (r .mode ≡ byte-N → ⊥) → 0 < r .factor
+pub record Lawful (g : Grant) : Type 0 where
+  pub at-most-whole : g .discount ≤ unit
+  pub one-of-four : isRounding (g .mode) ≡ true
+  pub factor-used : (g .mode ≡ byte-N → ⊥) → 0 < g .factor
 
 -- rounded by the first of the four bytes that it is
 by-mode : (n f mode : ℕ) (plus minus zero : Bool) → eqb mode byte-plus ≡ plus → eqb mode byte-minus ≡ minus → eqb mode byte-0 ≡ zero
@@ -49,11 +51,11 @@ by-mode n f mode false false false p m z h g =
     let x : eqb mode byte-N ≡ true = rw (p, m, z) at h in
     inr (inr (inr (eqb-true mode byte-N x, rw (p, m, z, x) (near-is n 1 (omega arith)))))
 
-pub rounded-as-said : (r : Reduction) → Lawful r → (amount : ℕ) → IsRounded (r .mode) (amount * (unit - r .discount)) (r .factor) (reduceBy amount r)
+pub rounded-as-said : (g : Grant) → Lawful g → (amount : ℕ) → IsRounded (g .mode) (amount * (unit - g .discount)) (g .factor) (reduceBy amount g)
 unfolding reduceBy
-rounded-as-said r g amount =
-    by-mode (amount * (unit - r .discount)) (r .factor) (r .mode) (eqb (r .mode) byte-plus) (eqb (r .mode) byte-minus) (eqb (r .mode) byte-0)
-    refl refl refl (g .one-of-four) (g .factor-used)
+rounded-as-said g l amount =
+    by-mode (amount * (unit - g .discount)) (g .factor) (g .mode) (eqb (g .mode) byte-plus) (eqb (g .mode) byte-minus) (eqb (g .mode) byte-0)
+    refl refl refl (l .one-of-four) (l .factor-used)
 
 -- FROM THE ROWS of the layout: a number within its limits, or blank, and a factor where it is used
 blank-value : (s : List ℕ) → every isBlank s ≡ true → valueOf (numberOf s) ≡ 0
@@ -76,21 +78,24 @@ factor-above : (mode : ℕ) (s : List ℕ) → factorRule mode s ≡ true → (m
 unfolding factorRule
 factor-above mode s h n = within-value 1 999 (numberOf s) (rw (ne-eqb mode byte-N n) at h) .0
 
-module _ (r : Rec) (keeps : KeepsRows r) where
-  pub conditions-lawful : r .kind ≡ CO → Lawful (conditionsGrant (r .body))
-  unfolding layout obeysRow ruled reductionAt
+module _ (r : Rec) (keeps : KeepsRules r) where
+  kept : (t f : ℕ) → r .table ≡ t → any (λ (w : Row). eqb (w .field) f) (tableAt t .rows) ≡ true → obeysRow (rowOf t f) (r .body) ≡ true
+  kept t f e h = keeps-field t f (r .body) (rw (← e) keeps) h
+
+  pub conditions-lawful : r .table ≡ CO → Lawful (conditionsGrant (r .body))
+  unfolding any obeysRow ruled grantIn numberIn byteOf bytesOf rowOf rowWith tableAt tables co
   conditions-lawful e =
       record {
-        at-most-whole = at-most unit (fieldAt 128 6 (r .body)) _ refl (keeps 16 (omega arith) (sym e));
-        one-of-four = keeps 17 (omega arith) (sym e);
-        factor-used = factor-above (byteAt 134 (r .body)) (fieldAt 135 3 (r .body)) (keeps 18 (omega arith) (sym e));
+        at-most-whole = at-most unit (bytesOf CO 39 (r .body)) _ refl (kept CO 39 e refl);
+        one-of-four = kept CO 40 e refl;
+        factor-used = factor-above (byteOf CO 40 (r .body)) (bytesOf CO 41 (r .body)) (kept CO 41 e refl);
       }
 
-  pub card-lawful : r .kind ≡ AR → Lawful (cardGrants (r .body))
-  unfolding layout obeysRow ruled reductionAt
+  pub card-lawful : r .table ≡ AR → Lawful (cardGrants (r .body))
+  unfolding any obeysRow ruled grantIn numberIn byteOf bytesOf rowOf rowWith tableAt tables ar
   card-lawful e =
       record {
-        at-most-whole = within-value 0 unit (numberOf (fieldAt 17 6 (r .body))) (keeps 37 (omega arith) (sym e)) .1;
-        one-of-four = keeps 41 (omega arith) (sym e);
-        factor-used = factor-above (byteAt 28 (r .body)) (fieldAt 29 3 (r .body)) (keeps 42 (omega arith) (sym e));
+        at-most-whole = within-value 0 unit (numberOf (bytesOf AR 5 (r .body))) (kept AR 5 e refl) .1;
+        one-of-four = kept AR 9 e refl;
+        factor-used = factor-above (byteOf AR 9 (r .body)) (bytesOf AR 10 (r .body)) (kept AR 10 e refl);
       }

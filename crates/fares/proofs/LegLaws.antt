@@ -1,77 +1,109 @@
--- What a leg's choice, checks and steps come to: the laws that the functions over a leg cite.
+-- What a leg's records and checks come to: the laws that the functions over a leg cite.
 -- Assumes nothing.
-use Prim.Native.Nat.{ℕ, _*_, _≤_}
-use mathlib.Core.Path.{_≡_}
+use Prim.Native.Nat.{ℕ, _*_, _≤_, _<_}
+use mathlib.Core.Path.{_≡_, refl, ap}
 use mathlib.Core.Bool.{Bool, true, false, cond}
-use mathlib.Core.List.{List, []}
 use mathlib.Core.Logic.{_⊎_, ⊎-elim}
+use mathlib.Core.List.{List, [], _∷_, map}
 use native.Mathlib.Omega.{arith}
-use lib.ListN.{length, getD}
-use borrow.Author.Tests.{eq-eqb, ne-eqb}
-use Rattle.common.specs.Lists.{byteAt}
+use lib.ListN.{length, getD, length-map}
+use types.Run.{OneOf}
+use denote.Enum.Declared.{tagOf}
+use Rattle.bundle.proofs.choice.Choice.{the-type}
 use Rattle.common.specs.Checks.{refuse, fault, firstFault}
-use Rattle.layout.specs.Bytes.{byte-Y}
-use Rattle.layout.specs.Tables.{AR}
-use Rattle.bundle.specs.Records.{Rec, noRec}
+use Rattle.layout.specs.Layout.{AR, tableAt, tables, co}
+use Rattle.layout.specs.Fields.{rowWith, rowOf, byteOf, isYes}
+use Rattle.layout.specs.declared.fields.Grant.{Grant}
+use Rattle.bundle.specs.Records.{Rec, noRec, recordsOf}
 use Rattle.bundle.specs.Choice.{choiceOf}
+use Rattle.bundle.specs.Helpers.{atPlace}
 use Rattle.bundle.specs.declared.choice.Choice.{Choice}
 use Rattle.bundle.specs.declared.choice.Choice.the-variants.{At, NotThatDay, Nothing}
-use Rattle.fares.specs.Reductions.{conditionsGrant, reduceBy, reduceAll, partBound}
-use Rattle.fares.specs.Legs.{byCard, cardCounts, cardSteps, stepsOf, partBy, partOf, conditionsFor, legChecks, answered, answerBy}
+use Rattle.bundle.proofs.Here.{at-place}
+use Rattle.bundle.proofs.ChoiceLaws.{choice-inside}
+use Rattle.fares.specs.Reductions.{conditionsGrant, cardGrants, reduceBy, reduceAll, partBound}
+use Rattle.fares.specs.Legs.{wantedFor, conditionsFor, bodies, bodyOf, cardCounts, cardFor, chosen, legChecks, stepsOf, partBy, partOf}
+use Rattle.fares.specs.Helpers.{bodiesAt, answerOf, answerBy}
 use Rattle.fares.specs.declared.Leg.{Leg}
 use Rattle.fares.specs.declared.Question.{Question}
-use Rattle.fares.specs.declared.reductions.Reduction.{Reduction}
-use Rattle.fares.proofs.StepLaws.{factor-small, Granted, none, more, part-small}
+use Rattle.fares.proofs.StepLaws.{conditions-small, card-small, Granted, none, more, part-small}
 
--- a card that has no record that day reduces nothing
-pub no-step : (R : List Rec) (c : Choice) → (c ≡ NotThatDay) ⊎ (c ≡ Nothing) → byCard R c ≡ []
-no-step R c h = ⊎-elim (λ e. rw e) (λ e. rw e) h
+-- THE BOUND on a leg's part, which has the step of its CO and at most one of a card
+granted : (cards : List (List ℕ)) → Granted (map cardGrants cards)
+granted [] = none
+granted (ar ∷ cards) = more (card-small ar) (granted cards)
 
--- a card has one step at most, of a factor of three digits
-granted-by : (R : List Rec) (c : Choice) → Granted (byCard R c) × (length (byCard R c) ≤ 1)
-granted-by R (At i) = (more (factor-small 17 28 29 (getD R i noRec .body)) none, omega arith)
-granted-by R NotThatDay = (none, omega arith)
-granted-by R Nothing = (none, omega arith)
-
-granted-cond : (b : Bool) (rs : List Reduction) → Granted rs × (length rs ≤ 1) → Granted (cond b rs []) × (length (cond b rs []) ≤ 1)
-granted-cond true rs h = h
-granted-cond false rs h = (none, omega arith)
-
-granted : (R : List Rec) (q : Question) (railway : ℕ) (co : List ℕ) → Granted (cardSteps R q railway co) × (length (cardSteps R q railway co) ≤ 1)
-unfolding cardSteps
-granted R q railway co =
-    granted-cond (cardCounts q co) (byCard R (choiceOf R AR (q .offer) railway (q .card) (q .day))) (granted-by R (choiceOf R AR (q .offer) railway (q .card) (q .day)))
-
--- THE BOUND on a leg's part
-pub leg-small : (R : List Rec) (q : Question) (leg : Leg) (co : List ℕ) → leg .fare ≤ 999999 → q .persons ≤ 99 → partBy R q leg co ≤ partBound
+pub by-small : (q : Question) (leg : Leg) (co : List ℕ) (cards : List (List ℕ)) → length cards ≤ 1 → leg .fare ≤ 999999 → q .persons ≤ 99
+    → partBy q leg co cards ≤ partBound
 unfolding partBy
-leg-small R q leg co hf hp =
-    let g = granted R q (leg .railway) co in
-    part-small (leg .fare) (q .persons) (stepsOf R q leg co) hf hp (more (factor-small 128 134 135 co) (g .0)) (omega arith)
+by-small q leg co cards l hf hp =
+    part-small (leg .fare) (q .persons) (stepsOf co cards) hf hp (more (conditions-small co) (granted cards)) (omega (arith, length-map cards cardGrants))
 
--- the steps of a card that counts
-pub card-steps : (R : List Rec) (q : Question) (railway : ℕ) (co : List ℕ) → (q .card ≡ 0 → ⊥) → byteAt 122 co ≡ byte-Y
-    → cardSteps R q railway co ≡ byCard R (choiceOf R AR (q .offer) railway (q .card) (q .day))
-unfolding cardSteps
-card-steps R q railway co c y = rw (ne-eqb (q .card) 0 c, eq-eqb (byteAt 122 co) byte-Y y)
+at-most-one : (R : List Rec) (c : Choice) → length (bodies R c) ≤ 1
+at-most-one R (At i) = omega arith
+at-most-one R NotThatDay = omega arith
+at-most-one R Nothing = omega arith
+
+pub leg-small : (R : List Rec) (q : Question) (leg : Leg) → leg .fare ≤ 999999 → q .persons ≤ 99 → partOf R q leg ≤ partBound
+leg-small R q leg hf hp = by-small q leg _ (bodies R (chosen R q leg .card)) (at-most-one R (chosen R q leg .card)) hf hp
+
+pub one-at-most : (s : List ℕ) (c : Choice) → length (bodiesAt s c) ≤ 1
+one-at-most s (At p) = omega arith
+one-at-most s NotThatDay = omega arith
+one-at-most s Nothing = omega arith
+
+-- the part by CO's step and then the card's
+pub part-by : (q : Question) (leg : Leg) (co : List ℕ) (cards : List (List ℕ)) {a r : ℕ} {g : Grant} → a ≡ reduceAll r (map cardGrants cards)
+    → r ≡ reduceBy (leg .fare) g → g ≡ conditionsGrant co → a * q .persons ≡ partBy q leg co cards
+unfolding partBy reduceAll
+part-by q leg co cards e f g = rw (e, f, g)
+
+-- where no record is there are no bytes
+pub no-bodies : (s : List ℕ) (v : Choice) → OneOf (1 ∷ 2 ∷ []) (tagOf the-type v) → bodiesAt s v ≡ []
+no-bodies s (At p) x = ⊎-elim (λ h. absurd (omega arith)) (λ h. absurd (omega arith)) x
+no-bodies s NotThatDay x = refl
+no-bodies s Nothing x = refl
+
+-- a record chosen has the same bytes at its place
+same-bodies : (s : List ℕ) (c : Choice) → ((i : ℕ) → c ≡ At i → i < length (recordsOf s)) → bodiesAt s (atPlace s c) ≡ bodies (recordsOf s) c
+same-bodies s (At i) h = ap (_∷ []) (at-place s i (h i refl) .0)
+same-bodies s NotThatDay h = refl
+same-bodies s Nothing h = refl
+
+-- and so has the card's, if one was asked for
+pub card-bodies : (s : List ℕ) (q : Question) (leg : Leg) (co : List ℕ)
+    → bodiesAt s (atPlace s (cardFor (recordsOf s) q leg co)) ≡ bodies (recordsOf s) (cardFor (recordsOf s) q leg co)
+card-bodies s q leg co = go (cardCounts q co)
+  where
+    go : (b : Bool) → let c = cond b (choiceOf (recordsOf s) (wantedFor AR (q .card) q leg)) Nothing in bodiesAt s (atPlace s c) ≡ bodies (recordsOf s) c
+    go true = same-bodies s (choiceOf (recordsOf s) (wantedFor AR (q .card) q leg)) (choice-inside (recordsOf s) (wantedFor AR (q .card) q leg))
+    go false = refl
 
 -- what the choice of the CO says of the leg
 module _ (R : List Rec) (q : Question) (k : ℕ) (leg : Leg) where
   pub no-conditions : conditionsFor R q leg ≡ Nothing → firstFault (legChecks R q k leg) ≡ fault (refuse 12 k 0)
-  unfolding firstFault
+  unfolding firstFault chosen
   no-conditions e = rw e
 
   pub off-day : conditionsFor R q leg ≡ NotThatDay → firstFault (legChecks R q k leg) ≡ fault (refuse 13 k 0)
-  unfolding firstFault
+  unfolding firstFault chosen
   off-day e = rw e
 
-  pub by-conditions : (i : ℕ) → conditionsFor R q leg ≡ At i
-      → answered (firstFault (legChecks R q k leg)) (partOf R q leg) ≡ answerBy R q k leg (getD R i noRec .body)
-  unfolding firstFault answerBy
-  by-conditions i e = rw e
+-- no CO, no card; and the card by the CO's bytes is that by its number
+module _ (s : List ℕ) (q : Question) (leg : Leg) where
+  abbrev conditions : Choice
+  conditions = conditionsFor (recordsOf s) q leg
 
--- the part by CO's step and then the card's
-pub part-by : (R : List Rec) (q : Question) (leg : Leg) (co : List ℕ) {a r : ℕ} {g : Reduction} → a ≡ reduceAll r (cardSteps R q (leg .railway) co)
-    → r ≡ reduceBy (leg .fare) g → g ≡ conditionsGrant co → a * q .persons ≡ partBy R q leg co
-unfolding partBy reduceAll
-part-by R q leg co e f g = rw (e, f, g)
+  pub no-card : (conditions ≡ NotThatDay) ⊎ (conditions ≡ Nothing) → Nothing ≡ atPlace s (cardFor (recordsOf s) q leg (bodyOf (recordsOf s) conditions))
+  unfolding isYes byteOf rowOf rowWith tableAt tables co
+  no-card h = ⊎-elim (λ e. rw e) (λ e. rw e) h
+
+  pub card-of : {i : ℕ} {co : List ℕ} → conditions ≡ At i → co ≡ getD (recordsOf s) i noRec .body
+      → atPlace s (cardFor (recordsOf s) q leg co) ≡ atPlace s (cardFor (recordsOf s) q leg (bodyOf (recordsOf s) conditions))
+  card-of e f = rw (e, f)
+
+-- the answer by the places of the records is that by their numbers
+pub by-places : (s : List ℕ) (q : Question) (k : ℕ) (leg : Leg) {i : ℕ} {co : List ℕ} {card : Choice} → let R = recordsOf s in
+    conditionsFor R q leg ≡ At i → co ≡ getD R i noRec .body → card ≡ atPlace s (chosen R q leg .card) → answerBy q k leg co (bodiesAt s card) ≡ answerOf R q k leg
+unfolding firstFault chosen answerOf answerBy
+by-places s q k leg e f g = rw (f, g, card-bodies s q leg (bodyOf (recordsOf s) (conditionsFor (recordsOf s) q leg)), e)

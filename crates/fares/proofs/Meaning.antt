@@ -16,14 +16,15 @@ use Rattle.common.proofs.Sums.{sum-padded, map-at}
 use Rattle.bundle.specs.Records.{Rec}
 use Rattle.fares.specs.Question.{noLeg, legsOf, inLimits}
 use Rattle.fares.specs.Reductions.{reduceAll, partBound}
-use Rattle.fares.specs.Legs.{partBy, partOf, chosenBody, conditionsFor, stepsOf}
+use Rattle.fares.specs.Legs.{bodies, bodyOf, chosen, stepsOf, partBy, partOf}
 use Rattle.fares.specs.Fare.{partsOf, mostFare}
 use Rattle.fares.specs.declared.Question.{Question}
 use Rattle.fares.proofs.FareLaws.{asked, sum-of-parts}
 
 -- EACH PART: the exact steps of CO and, if it applies, the card, each rounded once, times the persons
 pub each-part : (R : List Rec) (q : Question) (k : ℕ) → k < q .count → let leg = getD (legsOf q) k noLeg in
-    getD (partsOf R q) k 0 ≡ reduceAll (leg .fare) (stepsOf R q leg (chosenBody R (conditionsFor R q leg))) * q .persons
+    let c = chosen R q leg in
+    getD (partsOf R q) k 0 ≡ reduceAll (leg .fare) (stepsOf (bodyOf R (c .conditions)) (bodies R (c .card))) * q .persons
 unfolding partsOf partBy
 each-part R q k l =
     let n : length (legsOf q) ≡ q .count = first-length noLeg (q .count) (q .legs) in

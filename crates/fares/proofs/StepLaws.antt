@@ -1,26 +1,36 @@
 -- One step and a chain of steps: at most 998 cents are added a step; a smaller amount and a larger discount give no more.
 -- Assumes nothing.
 use Prim.Native.Nat.{ℕ, _+_, _-_, _*_, _≤_}
-use mathlib.Core.Path.{_≡_}
+use mathlib.Core.Path.{_≡_, refl}
 use mathlib.Core.List.{List, [], _∷_}
 use native.Mathlib.Nat.{mul-zero, mul-le-mul, mul-le-mul-left, le-trans, le-refl}
 use native.Mathlib.Omega.{arith}
 use lib.ListN.{length, length-take}
 use Rattle.common.proofs.Digits.{number-small}
-use Rattle.layout.specs.Rules.{fieldAt}
+use Rattle.layout.specs.Layout.{CO, AR, tableAt, tables, co, ar}
+use Rattle.layout.specs.Fields.{rowWith, rowOf, bytesOf, numberIn, grantIn}
+use Rattle.layout.specs.declared.fields.Grant.{Grant}
 use Rattle.fares.specs.Rounding.{unit}
-use Rattle.fares.specs.Reductions.{reductionAt, reduceBy, reduceAll, steps, partBound}
-use Rattle.fares.specs.declared.reductions.Reduction.{Reduction}
+use Rattle.fares.specs.Reductions.{conditionsGrant, cardGrants, reduceBy, reduceAll, steps, partBound}
 use Rattle.fares.proofs.RoundLaws.{rounded-small, rounded-mono, rounded-zero}
 
--- a factor of three digits is at most 999
-pub factor-small : (d m f : ℕ) (body : List ℕ) → reductionAt d m f body .factor ≤ 999
-unfolding reductionAt
-factor-small d m f body =
-    let l : length (fieldAt f 3 body) ≤ 3 = rw length-take (omega arith) in
-    omega (arith, number-small (fieldAt f 3 body) 3 l)
+-- a factor of three digits is at most 999, which those of CO and AR are
+factor-small : (t f : ℕ) (body : List ℕ) → rowOf t f .length ≡ 3 → numberIn t f body ≤ 999
+unfolding numberIn bytesOf
+factor-small t f body e =
+    let l : length (bytesOf t f body) ≤ 3 = rw (e, length-take) (omega arith) in
+    omega (arith, number-small (bytesOf t f body) 3 l)
 
-module _ (r : Reduction) where
+module _ (body : List ℕ) where
+  pub conditions-small : conditionsGrant body .factor ≤ 999
+  unfolding grantIn rowOf rowWith tableAt tables co
+  conditions-small = factor-small CO 41 body refl
+
+  pub card-small : cardGrants body .factor ≤ 999
+  unfolding grantIn rowOf rowWith tableAt tables ar
+  card-small = factor-small AR 10 body refl
+
+module _ (r : Grant) where
   pub step-small : r .factor ≤ 999 → (a : ℕ) → reduceBy a r ≤ a + 998
   unfolding reduceBy
   step-small h a =
@@ -33,50 +43,50 @@ module _ (r : Reduction) where
       rounded-mono (a * (unit - r .discount)) (b * (unit - r .discount)) (mul-le-mul h (le-refl (unit - r .discount))) (r .mode) (r .factor)
 
 -- the same record with another discount
-abbrev pub granting : ℕ → Reduction → Reduction
+abbrev pub granting : ℕ → Grant → Grant
 granting d r = record { discount = d; mode = r .mode; factor = r .factor }
 
-pub step-anti : (a d e : ℕ) (r : Reduction) → d ≤ e → reduceBy a (granting e r) ≤ reduceBy a (granting d r)
+pub step-anti : (a d e : ℕ) (r : Grant) → d ≤ e → reduceBy a (granting e r) ≤ reduceBy a (granting d r)
 unfolding reduceBy
 step-anti a d e r h =
     let g : unit - e ≤ unit - d = omega arith in
     rounded-mono (a * (unit - e)) (a * (unit - d)) (mul-le-mul-left a g) (r .mode) (r .factor)
 
 -- every factor of a chain is at most 999
-pub data Granted : List Reduction → Type 0 where
+pub data Granted : List Grant → Type 0 where
   none : Granted []
-  more : {r : Reduction} {rs : List Reduction} → r .factor ≤ 999 → Granted rs → Granted (r ∷ rs)
+  more : {r : Grant} {rs : List Grant} → r .factor ≤ 999 → Granted rs → Granted (r ∷ rs)
 
-pub all-small : (rs : List Reduction) → Granted rs → (a : ℕ) → reduceAll a rs ≤ a + 998 * length rs
+pub all-small : (rs : List Grant) → Granted rs → (a : ℕ) → reduceAll a rs ≤ a + 998 * length rs
 unfolding reduceAll
 all-small [] g a = omega arith
 all-small (r ∷ rs) (more h g) a = omega (arith, all-small rs g (reduceBy a r), step-small r h a)
 
-pub all-mono : (rs : List Reduction) (a b : ℕ) → a ≤ b → reduceAll a rs ≤ reduceAll b rs
+pub all-mono : (rs : List Grant) (a b : ℕ) → a ≤ b → reduceAll a rs ≤ reduceAll b rs
 unfolding reduceAll
 all-mono [] a b h = h
 all-mono (r ∷ rs) a b h = all-mono rs (reduceBy a r) (reduceBy b r) (step-mono r a b h)
 
 -- chains of the same records, the discounts of the first nowhere below those of the second
-pub data Raised : List Reduction → List Reduction → Type 0 where
+pub data Raised : List Grant → List Grant → Type 0 where
   none : Raised [] []
-  more : {d e : ℕ} (r : Reduction) {rs qs : List Reduction} → d ≤ e → Raised rs qs → Raised (granting e r ∷ rs) (granting d r ∷ qs)
+  more : {d e : ℕ} (r : Grant) {rs qs : List Grant} → d ≤ e → Raised rs qs → Raised (granting e r ∷ rs) (granting d r ∷ qs)
 
-pub all-anti : (rs qs : List Reduction) → Raised rs qs → (a : ℕ) → reduceAll a rs ≤ reduceAll a qs
+pub all-anti : (rs qs : List Grant) → Raised rs qs → (a : ℕ) → reduceAll a rs ≤ reduceAll a qs
 unfolding reduceAll
 all-anti rs qs none a = le-refl a
 all-anti rs qs (more {d} {e} r {rs = rs′} {qs = qs′} h g) a =
     le-trans (all-mono rs′ (reduceBy a (granting e r)) (reduceBy a (granting d r)) (step-anti a d e r h)) (all-anti rs′ qs′ g (reduceBy a (granting d r)))
 
 -- THE BOUND on a part: at most 99 persons, each with at most `steps` steps from at most 999,999 cents
-pub part-small : (fare persons : ℕ) (rs : List Reduction) → fare ≤ 999999 → persons ≤ 99 → Granted rs → length rs ≤ steps
+pub part-small : (fare persons : ℕ) (rs : List Grant) → fare ≤ 999999 → persons ≤ 99 → Granted rs → length rs ≤ steps
     → reduceAll fare rs * persons ≤ partBound
 part-small fare persons rs hf hp g l =
     let a : reduceAll fare rs ≤ 999999 + 998 * steps = omega (arith, all-small rs g fare) in
     omega (arith, mul-le-mul a hp)
 
 -- A WHOLE DISCOUNT leaves nothing, in every mode and for every amount.
-pub whole-discount : (a : ℕ) (r : Reduction) → r .discount ≡ unit → reduceBy a r ≡ 0
+pub whole-discount : (a : ℕ) (r : Grant) → r .discount ≡ unit → reduceBy a r ≡ 0
 unfolding reduceBy
 whole-discount a r e =
     let z : a * (unit - r .discount) ≡ 0 = rw e (mul-zero a) in

@@ -44,9 +44,6 @@ priced parts = record { outcome = Priced; fare = sum parts; parts = parts }
 abbrev pub quoted : Finding → List ℕ → Quote
 quoted f parts = unless noFare f (priced parts)
 
--- the fare from records, and THE FARE from a bundle
-unfoldable pub priceOf : List Rec → Question → Quote
-priceOf R q = quoted (firstFault (priceChecks R q)) (partsOf R q)
-
+-- THE FARE
 unfoldable pub fareOf : List ℕ → Question → Quote
 fareOf s q = quoted (firstFault (fareChecks s q)) (partsOf (recordsOf s) q)

@@ -1,96 +1,79 @@
--- One leg of a question: the checks in their order, and its part of the fare (document 01, 'Pricing', numbers 12 to 15).
+-- One leg of a question (document 01, 'Pricing', numbers 12 to 15): first which records it has, then what these say of it.
 -- Assumes nothing.
 use Prim.Native.Nat.{ℕ, _*_}
 use mathlib.Core.Bool.{Bool, true, false, cond, not, _&&_}
-use mathlib.Core.List.{List, [], _∷_}
-use lib.Dec.{eqb, leb, ltb}
+use mathlib.Core.List.{List, [], _∷_, map}
+use lib.Dec.{eqb, leb}
 use lib.ListN.{getD}
-use Rattle.common.specs.Least.{least}
-use Rattle.common.specs.Lists.{byteAt}
-use Rattle.common.specs.Digits.{numberOf, valueOf}
-use Rattle.common.specs.Checks.{Finding, Check, check, unless, firstFault}
-use Rattle.layout.specs.Bytes.{byte-Y}
-use Rattle.layout.specs.Tables.{CO, AR}
-use Rattle.layout.specs.Rules.{fieldAt}
+use Rattle.common.specs.Checks.{Check, check}
+use Rattle.layout.specs.Layout.{CO, AR}
+use Rattle.layout.specs.Fields.{numberIn, isYes}
+use Rattle.layout.specs.declared.fields.Grant.{Grant}
 use Rattle.bundle.specs.Records.{Rec, noRec}
 use Rattle.bundle.specs.Choice.{choiceOf}
+use Rattle.bundle.specs.declared.choice.Wanted.{Wanted}
 use Rattle.bundle.specs.declared.choice.Choice.{Choice}
 use Rattle.bundle.specs.declared.choice.Choice.the-variants.{At, NotThatDay, Nothing}
 use Rattle.fares.specs.Reductions.{conditionsGrant, cardGrants, reduceAll}
 use Rattle.fares.specs.declared.Leg.{Leg}
 use Rattle.fares.specs.declared.Question.{Question}
-use Rattle.fares.specs.declared.legs.Flag.{Flag}
-use Rattle.fares.specs.declared.legs.Priced.{Priced}
-use Rattle.fares.specs.declared.legs.Priced.the-variants.{Part, Refused}
-use Rattle.fares.specs.declared.reductions.Reduction.{Reduction}
+use Rattle.fares.specs.declared.records.LegRecords.{LegRecords}
 
--- "Least persons 00-99, most persons 01-99; two blanks mean 00 and 99", in positions 115-116 and 117-118
-abbrev pub leastPersons : List ℕ → ℕ
-leastPersons co = valueOf (numberOf (fieldAt 115 2 co))
+-- WHICH RECORDS. What is wanted of a record for a leg: its table, a code, and the offer, the leg's railway and the day
+abbrev pub wantedFor : ℕ → ℕ → Question → Leg → Wanted
+wantedFor t c q leg = record { table = t; offer = q .offer; railway = leg .railway; code = c; day = q .day }
 
-abbrev pub mostPersonsOf : List ℕ → ℕ
-mostPersonsOf co =
-    let most : ℕ = valueOf (numberOf (fieldAt 117 2 co)) in
+-- "the CO record of the offer and that railway is used, or else the offer's one for 0000"
+abbrev pub conditionsFor : List Rec → Question → Leg → Choice
+conditionsFor R q leg = choiceOf R (wantedFor CO 0 q leg)
+
+-- the bytes of the record that was chosen, if one was
+abbrev pub bodies : List Rec → Choice → List (List ℕ)
+bodies R (At i) = getD R i noRec .body ∷ []
+bodies R NotThatDay = []
+bodies R Nothing = []
+
+abbrev pub bodyOf : List Rec → Choice → List ℕ
+bodyOf R c = getD (bodies R c) 0 []
+
+-- "Then, if its flag 33 is Y and a card is given, the offer's AR record of that railway and code, or else the one of 0000."
+abbrev pub cardCounts : Question → List ℕ → Bool
+cardCounts q co = isYes CO 33 co && not (eqb (q .card) 0)
+
+abbrev pub cardFor : List Rec → Question → Leg → List ℕ → Choice
+cardFor R q leg co = cond (cardCounts q co) (choiceOf R (wantedFor AR (q .card) q leg)) Nothing
+
+-- the records of a leg, by their numbers
+unfoldable pub chosen : List Rec → Question → Leg → LegRecords
+chosen R q leg =
+    let c : Choice = conditionsFor R q leg in
+    record { conditions = c; card = cardFor R q leg (bodyOf R c) }
+
+-- WHAT THEY SAY. "Least persons 00-99, most persons 01-99; two blanks mean 00 and 99", in fields 28 and 29
+abbrev pub mostOf : List ℕ → ℕ
+mostOf co =
+    let most : ℕ = numberIn CO 29 co in
     cond (eqb most 0) 99 most
 
 unfoldable pub personsFit : List ℕ → ℕ → Bool
-personsFit co persons = leb (leastPersons co) persons && leb persons (mostPersonsOf co)
+personsFit co persons = leb (numberIn CO 28 co) persons && leb persons (mostOf co)
 
-abbrev pub flag : ℕ → ℕ → Flag
-flag f p = record { field = f; position = p }
+-- "field 27, 31, 32, 34 or 35 is Y: condition unread"
+unfoldable pub unread : List ℕ
+unread = 27 ∷ 31 ∷ 32 ∷ 34 ∷ 35 ∷ []
 
-abbrev pub noFlag : Flag
-noFlag = flag 0 0
+-- the first of some fields that is Y, 0 where none is
+unfoldable pub firstSet : List ℕ → List ℕ → ℕ
+firstSet [] co = 0
+firstSet (f ∷ fs) co = cond (isYes CO f co) f (firstSet fs co)
 
--- "field 27, 31, 32, 34 or 35 is Y: condition unread", by the positions of their flags
-unfoldable pub unreadFlags : List Flag
-unreadFlags = flag 27 114 ∷ flag 31 120 ∷ flag 32 121 ∷ flag 34 123 ∷ flag 35 124 ∷ []
-
-abbrev pub flags : ℕ
-flags = 5
-
-abbrev pub isSet : List ℕ → ℕ → Bool
-isSet co k = eqb (byteAt (getD unreadFlags k noFlag .position) co) byte-Y
-
--- the first condition that is set and not read; `flags` where none is
-unfoldable pub unreadFlag : List ℕ → ℕ
-unreadFlag co = least (isSet co) flags
-
--- the bytes of the record that was chosen
-abbrev pub chosenBody : List Rec → Choice → List ℕ
-chosenBody R (At i) = getD R i noRec .body
-chosenBody R NotThatDay = []
-chosenBody R Nothing = []
-
-abbrev pub conditionsFor : List Rec → Question → Leg → Choice
-conditionsFor R q leg = choiceOf R CO (q .offer) (leg .railway) 0 (q .day)
-
--- the card is given, and CO's flag 33, at position 122, is Y
-abbrev pub cardCounts : Question → List ℕ → Bool
-cardCounts q co = not (eqb (q .card) 0) && eqb (byteAt 122 co) byte-Y
-
--- "If there is no such AR, or the day lies outside it, the card does not reduce that leg"
-abbrev pub byCard : List Rec → Choice → List Reduction
-byCard R (At i) = cardGrants (getD R i noRec .body) ∷ []
-byCard R NotThatDay = []
-byCard R Nothing = []
-
-unfoldable pub cardSteps : List Rec → Question → ℕ → List ℕ → List Reduction
-cardSteps R q railway co = cond (cardCounts q co) (byCard R (choiceOf R AR (q .offer) railway (q .card) (q .day))) []
-
-abbrev pub afterCard : List Rec → Question → ℕ → List ℕ → ℕ → ℕ
-afterCard R q railway co amount = reduceAll amount (cardSteps R q railway co)
-
--- the steps of a leg: CO's, then the card's if it applies
-abbrev pub stepsOf : List Rec → Question → Leg → List ℕ → List Reduction
-stepsOf R q leg co = conditionsGrant co ∷ cardSteps R q (leg .railway) co
-
--- "The leg's part is the result times the persons"
-unfoldable pub partBy : List Rec → Question → Leg → List ℕ → ℕ
-partBy R q leg co = reduceAll (leg .fare) (stepsOf R q leg co) * q .persons
-
-abbrev pub partOf : List Rec → Question → Leg → ℕ
-partOf R q leg = partBy R q leg (chosenBody R (conditionsFor R q leg))
+-- 14: persons outside fields 28, 29; 15: a condition unread, by its field
+abbrev pub conditionChecks : Question → ℕ → List ℕ → List Check
+conditionChecks q k co =
+    let f : ℕ = firstSet unread co in
+    check (not (personsFit co (q .persons))) 14 k 0 ∷
+    check (not (eqb f 0)) 15 k f ∷
+    []
 
 abbrev pub isNothing : Choice → Bool
 isNothing (At i) = false
@@ -102,24 +85,23 @@ isOffDay (At i) = false
 isOffDay NotThatDay = true
 isOffDay Nothing = false
 
--- 14: persons outside fields 28, 29; 15: a condition unread, by its field
-abbrev pub conditionChecks : Question → ℕ → List ℕ → List Check
-conditionChecks q k co =
-    let u : ℕ = unreadFlag co in
-    check (not (personsFit co (q .persons))) 14 k 0 ∷
-    check (ltb u flags) 15 k (getD unreadFlags u noFlag .field) ∷
-    []
-
 -- 12: no CO for railway or 0000; 13: day outside that CO; then as it says
 abbrev pub legChecks : List Rec → Question → ℕ → Leg → List Check
 legChecks R q k leg =
-    let c : Choice = conditionsFor R q leg in
+    let c : Choice = chosen R q leg .conditions in
     check (isNothing c) 12 k 0 ∷
     check (isOffDay c) 13 k 0 ∷
-    conditionChecks q k (chosenBody R c)
+    conditionChecks q k (bodyOf R c)
 
-abbrev pub answered : Finding → ℕ → Priced
-answered f part = unless Refused f (Part part)
+-- the steps of a leg: CO's, then the card's. "If there is no such AR, or the day lies outside it, the card does not reduce that leg"
+abbrev pub stepsOf : List ℕ → List (List ℕ) → List Grant
+stepsOf co cards = conditionsGrant co ∷ map cardGrants cards
 
-unfoldable pub answerBy : List Rec → Question → ℕ → Leg → List ℕ → Priced
-answerBy R q k leg co = answered (firstFault (conditionChecks q k co)) (partBy R q leg co)
+-- "The leg's part is the result times the persons"
+unfoldable pub partBy : Question → Leg → List ℕ → List (List ℕ) → ℕ
+partBy q leg co cards = reduceAll (leg .fare) (stepsOf co cards) * q .persons
+
+abbrev pub partOf : List Rec → Question → Leg → ℕ
+partOf R q leg =
+    let c : LegRecords = chosen R q leg in
+    partBy q leg (bodyOf R (c .conditions)) (bodies R (c .card))

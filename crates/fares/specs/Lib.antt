@@ -3,3 +3,4 @@ pub mod Rounding
 pub mod Reductions
 pub mod Legs
 pub mod Fare
+pub mod Helpers

@@ -5,6 +5,7 @@ use mathlib.Core.Bool.{Bool, _&&_}
 use mathlib.Core.List.{List, [], _∷_}
 use lib.Dec.{leb}
 use Rattle.common.specs.Lists.{every, firstOf}
+use Rattle.layout.specs.Company.{isRailway}
 use Rattle.layout.specs.Dates.{isDay}
 use Rattle.fares.specs.declared.Leg.{Leg}
 use Rattle.fares.specs.declared.Question.{Question}
@@ -14,7 +15,7 @@ between lowest highest v = leb lowest v && leb v highest
 
 -- "each with a railway 1-9999 and a plain fare per person of 0-999,999 cents"
 abbrev pub legInLimits : Leg → Bool
-legInLimits leg = between 1 9999 (leg .railway) && leb (leg .fare) 999999
+legInLimits leg = isRailway (leg .railway) && leb (leg .fare) 999999
 
 abbrev pub noLeg : Leg
 noLeg = record { railway = 0; fare = 0 }

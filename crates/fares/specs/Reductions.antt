@@ -2,36 +2,26 @@
 -- Assumes nothing.
 use Prim.Native.Nat.{ℕ, _+_, _-_, _*_}
 use mathlib.Core.List.{List, [], _∷_}
-use Rattle.common.specs.Lists.{byteAt}
-use Rattle.common.specs.Digits.{numberOf, valueOf}
-use Rattle.layout.specs.Rules.{fieldAt}
+use Rattle.layout.specs.Layout.{CO, AR}
+use Rattle.layout.specs.Fields.{grantIn}
+use Rattle.layout.specs.declared.fields.Grant.{Grant}
 use Rattle.fares.specs.Rounding.{unit, rounded}
-use Rattle.fares.specs.declared.reductions.Reduction.{Reduction}
 
--- what a record grants, by the positions of its discount, rounding and factor; a blank discount is 0
-unfoldable pub reductionAt : ℕ → ℕ → ℕ → List ℕ → Reduction
-reductionAt discount-at mode-at factor-at body =
-    record {
-      discount = valueOf (numberOf (fieldAt discount-at 6 body));
-      mode = byteAt mode-at body;
-      factor = valueOf (numberOf (fieldAt factor-at 3 body));
-    }
+-- what a CO grants: "39 discount; 40 rounding; 41 factor", and an AR: "5 discount; .. 9 rounding; 10 factor"
+abbrev pub conditionsGrant : List ℕ → Grant
+conditionsGrant co = grantIn CO 39 40 41 co
 
--- "39 discount: 128-133; 40 rounding: 134; 41 factor: 135-137" and "5 discount: 17-22; .. 9 rounding: 28; 10 factor: 29-31"
-abbrev pub conditionsGrant : List ℕ → Reduction
-conditionsGrant co = reductionAt 128 134 135 co
-
-abbrev pub cardGrants : List ℕ → Reduction
-cardGrants ar = reductionAt 17 28 29 ar
+abbrev pub cardGrants : List ℕ → Grant
+cardGrants ar = grantIn AR 5 9 10 ar
 
 -- ONE STEP: "plain fare times (100,000 - discount) / 100,000 as an exact fraction, rounded by the .. record"
-unfoldable pub reduceBy : ℕ → Reduction → ℕ
-reduceBy amount r = rounded (r .mode) (amount * (unit - r .discount)) (r .factor)
+unfoldable pub reduceBy : ℕ → Grant → ℕ
+reduceBy amount g = rounded (g .mode) (amount * (unit - g .discount)) (g .factor)
 
 -- "the same is done to that rounded amount": one step after the other
-unfoldable pub reduceAll : ℕ → List Reduction → ℕ
+unfoldable pub reduceAll : ℕ → List Grant → ℕ
 reduceAll amount [] = amount
-reduceAll amount (r ∷ rs) = reduceAll (reduceBy amount r) rs
+reduceAll amount (g ∷ gs) = reduceAll (reduceBy amount g) gs
 
 -- how many steps a leg has at most: CO's, then one card's
 abbrev pub steps : ℕ

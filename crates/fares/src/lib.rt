@@ -1,10 +1,12 @@
 // The fare of a ticket, leg by leg.
 ghost use mathlib.Core.Path.{_≡_};
 ghost use Rattle.bundle.specs.Records.{recordsOf};
-ghost use Rattle.fares.specs.Fare.{noFare, priceOf, fareOf};
+ghost use Rattle.fares.specs.Fare.{noFare, fareOf};
+ghost use Rattle.fares.specs.Helpers.{priceOf};
 
 mod legs;
 pub mod limits;
+mod records;
 mod reductions;
 mod rounding;
 
@@ -49,10 +51,13 @@ fn refused(why: common::Refusal) -> Quote
     }
 }
 
+// No part is above this: the definition `partBound`.
+pub const PART_BOUND: u32 = 99197505;
+
 const MOST_FARE: u64 = 4294967295;
 
 // The fare from a bundle that was accepted.
-pub fn price(bundle: &[u8], q: Question) -> Quote
+fn price(bundle: &[u8], q: Question) -> Quote
     ensures { λ r. ⌜ r ≡ priceOf (recordsOf (now (bundle .entry))) q ⌝ }
 {
     if !limits::in_limits(q) {

@@ -15,17 +15,10 @@ fn is_between(v: u32, lowest: u32, highest: u32) -> bool
     v <= highest
 }
 
-// Whether a railway may be asked for.
-pub fn is_railway(railway: u32) -> bool
-    ensures { λ r. ⌜ r ≡ between 1 9999 railway ⌝ }
-{
-    is_between(railway, 1, 9999)
-}
-
 fn leg_in_limits(leg: Leg) -> bool
     ensures { λ r. ⌜ r ≡ legInLimits leg ⌝ }
 {
-    if !is_railway(leg.railway) {
+    if !layout::company::is_railway(leg.railway) {
         return false;
     }
     leg.fare <= 999999

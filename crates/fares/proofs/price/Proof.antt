@@ -19,7 +19,8 @@ use Rattle.common.proofs.Lists.{first-length, first-at}
 use Rattle.common.proofs.Sums.{sum-padded, sum-next, fill-next}
 use Rattle.bundle.specs.Records.{Rec, recordsOf}
 use Rattle.fares.specs.Question.{noLeg, legsOf, inLimits}
-use Rattle.fares.specs.Legs.{legChecks, partOf, answered}
+use Rattle.fares.specs.Legs.{legChecks, partOf}
+use Rattle.fares.specs.Helpers.{answered, answerOf}
 use Rattle.fares.specs.Fare.{partsOf, mostFare, priceChecks}
 use Rattle.fares.specs.Reductions.{partBound}
 use Rattle.common.proofs.Checks.{orElse}
@@ -73,10 +74,11 @@ same-leg c = let l = c .before in sym (first-at noLeg (asking l .count) (asking 
 
 told : (c : tie.After-price-leg Inv-loop μ-loop) → let l = c .before .before .before in
     c .price-leg .result ≡ answered (firstFault (legChecks (records l) (asking l) (l .loop .k) (leg-of l))) (partOf (records l) (asking l) (leg-of l))
+unfolding answerOf
 told c =
     let l = c .before .before .before in
     c .price-leg .ensures
-    ∙ ap (λ leg. answered (firstFault (legChecks (records l) (asking l) (l .loop .k) leg)) (partOf (records l) (asking l) leg)) (same-leg (c .before .before))
+    ∙ ap (answerOf (records l) (asking l) (l .loop .k)) (same-leg (c .before .before))
 
 below : (c : tie.In-loop Inv-loop μ-loop) → let l = c .before in l .loop .k < length (legsOf (asking l))
 below c = omega (arith, as-many (c .before), c .loop-test .taken)
