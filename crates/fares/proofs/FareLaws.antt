@@ -25,7 +25,7 @@ use Rattle.fares.specs.Question.{legInLimits, noLeg, legsOf, limitsOf, i
 use Rattle.fares.specs.Reductions.{partBound}
 use Rattle.fares.specs.Legs.{legChecks, partOf}
 use Rattle.fares.specs.Fare.{partsOf, mostFare, priceChecks, fareChecks, noFare, quoted, fareOf}
-use Rattle.fares.specs.Helpers.{answered, answerOf, priceOf}
+use Rattle.fares.specs.Helpers.{answered, priceOf}
 use Rattle.fares.specs.declared.Question.{Question}
 use Rattle.fares.specs.declared.legs.Priced.the-variants.{Part, Refused}
 use Rattle.fares.proofs.LegLaws.{leg-small}

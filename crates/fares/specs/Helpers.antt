@@ -2,13 +2,12 @@
 -- has to be believed: no promise and no answer of a call is stated with it.
 -- Assumes nothing.
 use Prim.Native.Nat.{ℕ}
-use mathlib.Core.List.{List, [], _∷_}
+use mathlib.Core.List.{List, map}
 use Rattle.common.specs.Checks.{Finding, unless, firstFault}
 use Rattle.bundle.specs.Records.{Rec}
 use Rattle.bundle.specs.Helpers.{bodyAt, atPlace}
 use Rattle.bundle.specs.declared.choice.Choice.{Choice}
-use Rattle.bundle.specs.declared.choice.Choice.the-variants.{At, NotThatDay, Nothing}
-use Rattle.fares.specs.Legs.{conditionChecks, legChecks, partBy, partOf}
+use Rattle.fares.specs.Legs.{found, conditionChecks, legChecks, partBy, partOf}
 use Rattle.fares.specs.Fare.{partsOf, priceChecks, quoted}
 use Rattle.fares.specs.declared.Leg.{Leg}
 use Rattle.fares.specs.declared.Question.{Question}
@@ -22,9 +21,7 @@ abbrev pub placed : List ℕ → LegRecords → LegRecords
 placed s c = record { conditions = atPlace s (c .conditions); card = atPlace s (c .card) }
 
 abbrev pub bodiesAt : List ℕ → Choice → List (List ℕ)
-bodiesAt s (At p) = bodyAt s p ∷ []
-bodiesAt s NotThatDay = []
-bodiesAt s Nothing = []
+bodiesAt s c = map (bodyAt s) (found c)
 
 -- the answer on one leg, and by the bytes of its CO and of its cards
 abbrev pub answered : Finding → ℕ → Priced

@@ -27,11 +27,14 @@ wantedFor t c q leg = record { table = t; offer = q .offer; railway = leg .railw
 abbrev pub conditionsFor : List Rec → Question → Leg → Choice
 conditionsFor R q leg = choiceOf R (wantedFor CO 0 q leg)
 
--- the bytes of the record that was chosen, if one was
+-- the record that was chosen, if one was, and its bytes
+abbrev pub found : Choice → List ℕ
+found (At i) = i ∷ []
+found NotThatDay = []
+found Nothing = []
+
 abbrev pub bodies : List Rec → Choice → List (List ℕ)
-bodies R (At i) = getD R i noRec .body ∷ []
-bodies R NotThatDay = []
-bodies R Nothing = []
+bodies R c = map (λ i. getD R i noRec .body) (found c)
 
 abbrev pub bodyOf : List Rec → Choice → List ℕ
 bodyOf R c = getD (bodies R c) 0 []

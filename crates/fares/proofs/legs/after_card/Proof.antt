@@ -1,7 +1,6 @@
 -- `fares::legs::after_card` meets its contract.
 -- Assumes nothing.
-use mathlib.Core.Path.{_≡_, refl, sym, _∙_, ap}
-use Rattle.fares.specs.Reductions.{reduceBy, reduceAll}
+use Rattle.fares.specs.Reductions.{reduceAll}
 use Rattle.fares.proofs.StepLaws.{card-small}
 use Rattle.fares.proofs.LegLaws.{no-bodies}
 use borrow.Author.Needs.{needs}

@@ -8,8 +8,6 @@ use native.Mathlib.Numerals.{add-one}
 use lib.ListN.{drop, getD, drop-of-length-le}
 use lib.Seq.{drop-cons}
 use borrow.Author.Needs.{needs}
-use Rattle.layout.specs.Layout.{CO}
-use Rattle.layout.specs.Fields.{isYes}
 use Rattle.fares.specs.Legs.{unread, firstSet}
 use Rattle.fares.proofs.legs.first_unread.Statement.{statement}
 use Rattle.fares.proofs.legs.first_unread.Tie as tie

@@ -6,12 +6,13 @@ use native.Mathlib.Omega.{arith}
 use borrow.Author.Tests.{eq-eqb, ne-eqb}
 use Rattle.common.specs.Checks.{firstFault}
 use Rattle.common.proofs.Tests.{fails, holds}
+use Rattle.bundle.specs.Helpers.{bodyAt}
 use Rattle.fares.specs.Reductions.{partBound}
 use Rattle.fares.specs.Legs.{partBy}
 use Rattle.fares.specs.Helpers.{bodiesAt, answerBy}
 use Rattle.fares.specs.declared.legs.Priced.the-variants.{Part, Refused}
 use Rattle.fares.proofs.StepLaws.{conditions-small, step-small}
-use Rattle.fares.proofs.LegLaws.{by-small, one-at-most, part-by}
+use Rattle.fares.proofs.LegLaws.{by-small, part-by}
 use borrow.Author.Needs.{needs}
 use Rattle.fares.proofs.legs.price_by.Statement.{statement}
 use Rattle.fares.proofs.legs.price_by.Tie as tie
@@ -30,7 +31,7 @@ small : (c : tie.After-after-card) → c .after-card .result * entry (c .before 
 small c =
     let s = entry (c .before .before) in
     let a = s .args in
-    rw (part c) (by-small (a .q) (a .leg) (a .co .now) _ (one-at-most (a .bundle .now) (a .card)) (s .pre .0) (s .pre .1))
+    rw (part c) (by-small (a .q) (a .leg) (a .co .now) (bodyAt (a .bundle .now)) (a .card) (s .pre .0) (s .pre .1))
 
 factor : (c : tie.After-conditions-grant) → c .conditions-grant .result .factor ≤ 999
 factor c = rw (c .conditions-grant .ensures) (conditions-small (entry c .args .co .now))

@@ -5,7 +5,7 @@ use Rattle.common.proofs.Checks.{as-found}
 use Rattle.layout.specs.Layout.{CO}
 use Rattle.bundle.specs.Records.{recordsOf}
 use Rattle.bundle.specs.Helpers.{atPlace}
-use Rattle.bundle.proofs.ChoiceLaws.{chosen-at, is-nothing, is-off-day}
+use Rattle.bundle.proofs.ChoiceLaws.{chosen-at}
 use Rattle.fares.specs.Legs.{wantedFor, conditionsFor, chosen}
 use Rattle.fares.specs.Helpers.{answerOf}
 use Rattle.fares.specs.declared.legs.Priced.the-variants.{Refused}
@@ -21,34 +21,21 @@ conditions : (t : tie.Start) → let a = t .args in
 unfolding chosen
 conditions t = ap (λ (r : LegRecords). r .conditions) (t .pre .2)
 
-returns : tie.Need-returns
-unfolding answerOf
-returns c =
-    let t = c .before .before .before .before in
-    let a = t .args in
-    let n = is-nothing (a .bundle .now) _ (sym (conditions t) ∙ c .before .enum-told .given .1) in
-    as-found Refused _ (no-conditions (recordsOf (a .bundle .now)) (a .q) (a .k) (a .leg) n) (c .refuse .ensures)
-
-returns-2 : tie.Need-returns-2
-unfolding answerOf
-returns-2 c =
-    let t = c .before .before .before .before in
-    let a = t .args in
-    let n = is-off-day (a .bundle .now) _ (sym (conditions t) ∙ c .before .enum-told2 .given .1) in
-    as-found Refused _ (off-day (recordsOf (a .bundle .now)) (a .q) (a .k) (a .leg) n) (c .refuse2 .ensures)
-
 returns-3 : tie.Need-returns-3
 returns-3 c =
-    let b = c .before in
-    let k = b .before .before in
+    let k = c .before .before .before in
     let t = k .before .before .before in
     let a = t .args in
     let e = chosen-at (a .bundle .now) (wantedFor CO 0 (a .q) (a .leg)) _ (sym (conditions t) ∙ k .conditions .given .1) in
     c .price-by .ensures
-    ∙ by-places (a .bundle .now) (a .q) (a .k) (a .leg) (e .1) (b .body-at .ensures ∙ e .2) (ap (λ (r : LegRecords). r .card) (t .pre .2))
+    ∙ by-places (a .bundle .now) (a .q) (a .leg) (a .k) (e .1) (c .before .body-at .ensures ∙ e .2) (ap (λ (r : LegRecords). r .card) (t .pre .2))
 
 pub price-from-spec : {M : Type 1} → statement M
+unfolding answerOf
 price-from-spec =
     tie.close (tie.spec
     (λ c. search needs) (λ c κs. search needs) (λ c. search needs) (λ c κs. search needs) (λ c. search needs) (λ c κs. search needs)
-    (λ c κs. search needs) returns returns-2 returns-3)
+    (λ c κs. search needs)
+    (λ c. as-found Refused _ (no-conditions _ _ _ _ (sym (conditions (c .before .before .before .before)) ∙ c .before .enum-told .given .1)) (c .refuse .ensures))
+    (λ c. as-found Refused _ (off-day _ _ _ _ (sym (conditions (c .before .before .before .before)) ∙ c .before .enum-told2 .given .1)) (c .refuse2 .ensures))
+    returns-3)
