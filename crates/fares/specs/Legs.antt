@@ -27,7 +27,7 @@ wantedFor t c q leg = record { table = t; offer = q .offer; railway = leg .railw
 abbrev pub conditionsFor : List Rec → Question → Leg → Choice
 conditionsFor R q leg = choiceOf R (wantedFor CO 0 q leg)
 
--- the record that was chosen, if one was, and its bytes
+-- the record that was chosen, if one was, and its bytes: "If there is no such AR, or the day lies outside it, the card does not reduce that leg"
 abbrev pub found : Choice → List ℕ
 found (At i) = i ∷ []
 found NotThatDay = []
@@ -65,7 +65,7 @@ personsFit co persons = leb (numberIn CO 28 co) persons && leb persons (mostOf c
 unfoldable pub unread : List ℕ
 unread = 27 ∷ 31 ∷ 32 ∷ 34 ∷ 35 ∷ []
 
--- the first of some fields that is Y, 0 where none is
+-- the first of some fields that is Y; 0, which is no field, where none is
 unfoldable pub firstSet : List ℕ → List ℕ → ℕ
 firstSet [] co = 0
 firstSet (f ∷ fs) co = cond (isYes CO f co) f (firstSet fs co)
@@ -96,7 +96,7 @@ legChecks R q k leg =
     check (isOffDay c) 13 k 0 ∷
     conditionChecks q k (bodyOf R c)
 
--- the steps of a leg: CO's, then the card's. "If there is no such AR, or the day lies outside it, the card does not reduce that leg"
+-- the steps of a leg: CO's, then the card's
 abbrev pub stepsOf : List ℕ → List (List ℕ) → List Grant
 stepsOf co cards = conditionsGrant co ∷ map cardGrants cards
 

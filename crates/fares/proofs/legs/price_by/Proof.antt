@@ -1,6 +1,7 @@
 -- `fares::legs::price_by` meets its contract.
 -- Assumes nothing.
 use Prim.Native.Nat.{_≤_, _*_}
+use mathlib.Core.Bool.{true}
 use mathlib.Core.Path.{_≡_, _∙_, ap}
 use native.Mathlib.Omega.{arith}
 use borrow.Author.Tests.{eq-eqb, ne-eqb}
@@ -8,7 +9,7 @@ use Rattle.common.specs.Checks.{firstFault}
 use Rattle.common.proofs.Tests.{fails, holds}
 use Rattle.bundle.specs.Helpers.{bodyAt}
 use Rattle.fares.specs.Reductions.{partBound}
-use Rattle.fares.specs.Legs.{partBy}
+use Rattle.fares.specs.Legs.{personsFit, partBy}
 use Rattle.fares.specs.Helpers.{bodiesAt, answerBy}
 use Rattle.fares.specs.declared.legs.Priced.the-variants.{Part, Refused}
 use Rattle.fares.proofs.StepLaws.{conditions-small, step-small}
@@ -36,19 +37,8 @@ small c =
 factor : (c : tie.After-conditions-grant) → c .conditions-grant .result .factor ≤ 999
 factor c = rw (c .conditions-grant .ensures) (conditions-small (entry c .args .co .now))
 
-returns : tie.Need-returns
-unfolding answerBy firstFault
-returns c =
-    let d = c .before in
-    ap Refused (c .refuse .ensures) ∙ rw (fails (d .before .persons-fit .result) (d .if1 .taken) (d .before .persons-fit .ensures))
-
-returns-2 : tie.Need-returns-2
-unfolding answerBy firstFault
-returns-2 c =
-    let f = c .before in
-    let e = f .before .before in
-    ap Refused (c .refuse2 .ensures)
-    ∙ rw (holds (e .before .persons-fit .result) (e .if1 .left) (e .before .persons-fit .ensures), ← f .before .first-unread .ensures, ne-eqb _ _ (f .if2 .taken))
+fit : (c : tie.Else1) → personsFit (c .before .before .before .before .args .co .now) (c .before .before .before .before .args .q .persons) ≡ true
+fit c = holds (c .before .persons-fit .result) (c .if1 .left) (c .before .persons-fit .ensures)
 
 after-card-requires : tie.Need-after-card-requires
 after-card-requires c κs =
@@ -58,14 +48,16 @@ after-card-requires c κs =
 returns-3 : tie.Need-returns-3
 unfolding answerBy firstFault
 returns-3 c =
-    let s = c .before .before .before .before in
-    let u = s .before in
-    let e = u .before in
-    rw (holds (e .before .persons-fit .result) (e .if1 .left) (e .before .persons-fit .ensures), ← u .first-unread .ensures, eq-eqb _ _ (s .if2 .left)) (ap Part (part c))
+    let e = c .before .before .before .before in
+    rw (fit (e .before .before), ← e .before .first-unread .ensures, eq-eqb _ _ (e .if2 .left)) (ap Part (part c))
 
 pub price-by-spec : {M : Type 1} → statement M
+unfolding answerBy firstFault
 price-by-spec =
     tie.close (tie.spec
-    (λ c κs. search needs) (λ c κs. search needs) returns (λ c κs. search needs) (λ c. search needs) (λ c κs. search needs) returns-2
-    (λ c. search needs) (λ c κs. search needs) (λ c κs. (omega arith, factor c))
-    after-card-requires (λ c. search needs) (λ c. omega (arith, small c)) (λ c. omega (arith, small c)) returns-3)
+    (λ c κs. search needs) (λ c κs. search needs)
+    (λ c. let d = c .before in ap Refused (c .refuse .ensures) ∙ rw (fails (d .before .persons-fit .result) (d .if1 .taken) (d .before .persons-fit .ensures)))
+    (λ c κs. search needs) (λ c. search needs) (λ c κs. search needs)
+    (λ c. let f = c .before in ap Refused (c .refuse2 .ensures) ∙ rw (fit (f .before .before), ← f .before .first-unread .ensures, ne-eqb _ _ (f .if2 .taken)))
+    (λ c. search needs) (λ c κs. search needs) (λ c κs. (omega arith, factor c)) after-card-requires (λ c. search needs)
+    (λ c. omega (arith, small c)) (λ c. omega (arith, small c)) returns-3)

@@ -7,11 +7,6 @@ use borrow.Author.Needs.{needs}
 use Rattle.fares.proofs.records.card_for.Statement.{statement}
 use Rattle.fares.proofs.records.card_for.Tie as tie
 
-returns-2 : tie.Need-returns-2
-returns-2 c =
-    let b = c .before in
-    rw (fails (b .is-yes .result) (c .if2 .taken) (b .is-yes .ensures))
-
 returns-3 : tie.Need-returns-3
 returns-3 c =
     let w = c .before in
@@ -21,4 +16,5 @@ returns-3 c =
 pub card-for-spec : {M : Type 1} → statement M
 card-for-spec =
     tie.close (tie.spec
-    (λ c. rw (eq-eqb _ _ (c .if1 .taken), and-false)) (λ c κs. search needs) returns-2 (λ c κs. search needs) (λ c κs. search needs) returns-3)
+    (λ c. rw (eq-eqb _ _ (c .if1 .taken), and-false)) (λ c κs. search needs)
+    (λ c. rw (fails (c .before .is-yes .result) (c .if2 .taken) (c .before .is-yes .ensures))) (λ c κs. search needs) (λ c κs. search needs) returns-3)
