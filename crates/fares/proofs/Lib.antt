@@ -4,4 +4,5 @@ pub mod RoundLaws
 pub mod StepLaws
 pub mod LegLaws
 pub mod FareLaws
+pub mod PriceLaws
 pub mod Meaning

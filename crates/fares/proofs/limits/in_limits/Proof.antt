@@ -2,7 +2,7 @@
 -- Assumes nothing.
 use Prim.Native.Nat.{ℕ}
 use mathlib.Core.Path.{_≡_, sym, _∙_}
-use mathlib.Core.Bool.{true, false, not, _&&_, and-true}
+use mathlib.Core.Bool.{and-true}
 use lib.ListN.{drop}
 use Rattle.common.specs.Lists.{every}
 use Rattle.common.proofs.Tests.{fails, holds, in-range}
