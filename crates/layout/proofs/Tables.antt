@@ -2,7 +2,7 @@
 -- a further block in the layout runs the tests again and changes no law.
 -- Assumes nothing.
 use Prim.Native.Nat.{ℕ, zero, suc, _+_, _-_, _≤_, _<_}
-use mathlib.Core.Path.{_≡_, refl, sym, ap, ap₂, _∙_}
+use mathlib.Core.Path.{_≡_, refl, ap, _∙_}
 use mathlib.Core.Bool.{Bool, true, false, cond, not, _&&_, _||_}
 use mathlib.Core.List.{List, [], _∷_, _++_, map}
 use mathlib.Core.Logic.{⊎-elim}
@@ -15,11 +15,13 @@ use borrow.Author.Tests.{not-true, not-false, eqb-true, leb-true, ltb-true, ne-e
 use Rattle.common.specs.Least.{least}
 use Rattle.common.specs.Lists.{every, any, same, sum}
 use Rattle.common.proofs.Least.{before}
-use Rattle.common.proofs.Lists.{same-parts}
+use Rattle.common.specs.Digits.{numberOf, isWithin}
+use Rattle.common.proofs.Lists.{same-is, same-parts}
 use Rattle.common.proofs.Tests.{never, both-true, side}
-use Rattle.layout.specs.Layout.{CO, RE, AR, FIRST-DAY, LAST-DAY, Table, noTable, noRow, tables, tableCount, tableAt, co, re, ar, me, endOf, lengthOf, standFrom, numbers, layoutFrom, layout}
+use Rattle.layout.specs.Layout.{CO, RE, AR, NUMBER, FIRST-DAY, LAST-DAY, Table, noTable, tables, tableCount, tableAt, co, re, ar, me, endOf, lengthOf, standFrom, numbers, layoutFrom, layout}
 use Rattle.layout.specs.Fields.{bytesIn, rowWith, rowOf, bytesOf, transferorOf, offerOf, railwayOf, sameKey, dayRow, hasPeriod, isFlagRow}
-use Rattle.layout.specs.Rules.{obeysRow, firstBroken, brokenField, keepsRules}
+use Rattle.layout.specs.Company.{isCompany}
+use Rattle.layout.specs.Rules.{ruled, obeysRow, firstBroken, brokenField, keepsRules}
 use Rattle.layout.specs.Helpers.{asRow, firstRow, keyLength}
 use Rattle.layout.specs.declared.rows.Row.{Row}
 
@@ -55,39 +57,53 @@ marks-differ t h =
     eqb-true (least (λ u. same (tableAt t .mark) (tableAt u .mark)) tableCount) t
     (computed (λ v. eqb (least (λ u. same (tableAt v .mark) (tableAt u .mark)) tableCount) v) tableCount refl t h)
 
--- ALIKE: field 1 of every table, and fields 2 and 3 of every table that has a railway, stand where CO has them
+-- ALIKE: the rows of field 1 in every table, and of fields 2 and 3 in every table that has a railway, are CO's
 abbrev alike : ℕ → ℕ → Bool
-alike f t = eqb (rowOf t f .start) (rowOf CO f .start) && eqb (rowOf t f .length) (rowOf CO f .length)
+alike f t = same (numbers 0 (rowOf t f)) (numbers 0 (rowOf CO f))
+
+abbrev has : ℕ → ℕ → Bool
+has f t = any (λ (r : Row). eqb (r .field) f) (tableAt t .rows)
 
 -- a table of offers: field 3, the railway, is in its key
-abbrev pub ofOffers : ℕ → Bool
+unfoldable pub ofOffers : ℕ → Bool
 ofOffers t = any (eqb 3) (tableAt t .key)
 
-stand-alike : (f t : ℕ) (body : List ℕ) → alike f t ≡ true → bytesOf t f body ≡ bytesOf CO f body
-unfolding bytesOf
-stand-alike f t body e =
-    let d = both-true (eqb (rowOf t f .start) (rowOf CO f .start)) (eqb (rowOf t f .length) (rowOf CO f .length)) e in
-    rw (eqb-true (rowOf t f .start) (rowOf CO f .start) (d .0), eqb-true (rowOf t f .length) (rowOf CO f .length) (d .1))
+row-alike : (f t : ℕ) → alike f t ≡ true → rowOf t f ≡ rowOf CO f
+row-alike f t e = ap asRow (same-is (numbers 0 (rowOf t f)) (numbers 0 (rowOf CO f)) e)
 
 pub transferor-stands : (t : ℕ) (body : List ℕ) → t < tableCount → bytesOf t 1 body ≡ transferorOf body
-unfolding least rowOf rowWith tableAt tables co re ar me transferorOf
-transferor-stands t body h = stand-alike 1 t body (computed (alike 1) tableCount refl t h)
+unfolding least same rowOf rowWith tableAt tables co re ar me transferorOf bytesOf
+transferor-stands t body h = ap (λ r. bytesIn r body) (row-alike 1 t (computed (alike 1) tableCount refl t h))
 
-if-offers : (b : Bool) {d : Bool} → b ≡ true → (not b || d) ≡ true → d ≡ true
-if-offers b e h = rw e at h
+if-so : (b : Bool) {d : Bool} → b ≡ true → (not b || d) ≡ true → d ≡ true
+if-so b e h = rw e at h
 
-named-offers : (t : ℕ) → ofOffers t ≡ true → t < tableCount
-unfolding any
-named-offers t e = ⊎-elim (λ h. h) (λ h. never (rw (no-table t h) at e) refl) (side t tableCount)
+module _ (t : ℕ) (o : ofOffers t ≡ true) where
+  named-offers : t < tableCount
+  unfolding ofOffers any
+  named-offers = ⊎-elim (λ h. h) (λ h. never (rw (no-table t h) at o) refl) (side t tableCount)
 
-module _ (t : ℕ) (body : List ℕ) (o : ofOffers t ≡ true) where
-  pub offer-stands : bytesOf t 2 body ≡ offerOf body
-  unfolding least any rowOf rowWith tableAt tables co re ar me offerOf
-  offer-stands = stand-alike 2 t body (if-offers (ofOffers t) o (computed (λ u. not (ofOffers u) || alike 2 u) tableCount refl t (named-offers t o)))
+  offer-row : (rowOf t 2 ≡ rowOf CO 2) × (has 2 t ≡ true)
+  unfolding least any same ofOffers rowOf rowWith tableAt tables co re ar me
+  offer-row = (
+    row-alike 2 t (if-so (ofOffers t) o (computed (λ u. not (ofOffers u) || alike 2 u) tableCount refl t named-offers)),
+    if-so (ofOffers t) o (computed (λ u. not (ofOffers u) || has 2 u) tableCount refl t named-offers),
+  )
 
-  pub railway-stands : bytesOf t 3 body ≡ railwayOf body
-  unfolding least any rowOf rowWith tableAt tables co re ar me railwayOf
-  railway-stands = stand-alike 3 t body (if-offers (ofOffers t) o (computed (λ u. not (ofOffers u) || alike 3 u) tableCount refl t (named-offers t o)))
+  railway-row : (rowOf t 3 ≡ rowOf CO 3) × (has 3 t ≡ true)
+  unfolding least any same ofOffers rowOf rowWith tableAt tables co re ar me
+  railway-row = (
+    row-alike 3 t (if-so (ofOffers t) o (computed (λ u. not (ofOffers u) || alike 3 u) tableCount refl t named-offers)),
+    if-so (ofOffers t) o (computed (λ u. not (ofOffers u) || has 3 u) tableCount refl t named-offers),
+  )
+
+  pub offer-stands : (body : List ℕ) → bytesOf t 2 body ≡ offerOf body
+  unfolding offerOf bytesOf
+  offer-stands body = ap (λ r. bytesIn r body) (offer-row .0)
+
+  pub railway-stands : (body : List ℕ) → bytesOf t 3 body ≡ railwayOf body
+  unfolding railwayOf bytesOf
+  railway-stands body = ap (λ r. bytesIn r body) (railway-row .0)
 
 -- CODES: no table but RE and AR has one
 pub no-code : (t : ℕ) → (t ≡ RE → ⊥) → (t ≡ AR → ⊥) → tableAt t .code ≡ 0
@@ -249,3 +265,27 @@ unbroken body (r ∷ rs) n = let d = both-true (ltb 0 (r .field)) (numbered rs) 
 pub unbroken-keeps : (t : ℕ) (body : List ℕ) → eqb (brokenField t body) 0 ≡ keepsRules t body
 unfolding brokenField keepsRules
 unbroken-keeps t body = unbroken body (tableAt t .rows) (fields-numbered t)
+
+-- so its offer, its railway and its code are such numbers.
+module _ (t : ℕ) (o : ofOffers t ≡ true) (body : List ℕ) (k : keepsRules t body ≡ true) where
+  pub offer-kept : isWithin 1 99999 (numberOf (offerOf body)) ≡ true
+  unfolding offerOf bytesOf obeysRow ruled rowOf rowWith tableAt tables co
+  offer-kept = rw (offer-row t o .0) at (keeps-field t 2 body k (offer-row t o .1))
+
+  pub railway-kept : isCompany (railwayOf body) ≡ true
+  unfolding railwayOf bytesOf obeysRow ruled rowOf rowWith tableAt tables co
+  railway-kept = rw (railway-row t o .0) at (keeps-field t 3 body k (railway-row t o .1))
+
+codes : (t : ℕ) → (tableAt t .code ≡ 0 → ⊥) → (rowOf t (tableAt t .code) .kind ≡ NUMBER) × (has (tableAt t .code) t ≡ true)
+unfolding least any rowOf rowWith tableAt tables co re ar me
+codes t n =
+    let h : t < tableCount = ⊎-elim (λ h. h) (λ h. absurd (n (rw (no-table t h)))) (side t tableCount) in
+    let c : not (eqb (tableAt t .code) 0) ≡ true = rw (ne-eqb (tableAt t .code) 0 n) in (
+      eqb-true _ _ (if-so (not (eqb (tableAt t .code) 0)) c (computed (λ u. not (not (eqb (tableAt u .code) 0)) || eqb (rowOf u (tableAt u .code) .kind) NUMBER) tableCount refl t h)),
+      if-so (not (eqb (tableAt t .code) 0)) c (computed (λ u. not (not (eqb (tableAt u .code) 0)) || has (tableAt u .code) u) tableCount refl t h),
+    )
+
+pub code-kept : (t : ℕ) → (tableAt t .code ≡ 0 → ⊥) → (body : List ℕ) → keepsRules t body ≡ true
+    → isWithin (rowOf t (tableAt t .code) .least) (rowOf t (tableAt t .code) .most) (numberOf (bytesOf t (tableAt t .code) body)) ≡ true
+unfolding obeysRow ruled bytesOf
+code-kept t n body k = rw (codes t n .0) at (keeps-field t (tableAt t .code) body k (codes t n .1))

@@ -1,7 +1,7 @@
 -- What the code's helpers answer. Nothing here has to be believed: no promise and no answer of a call is stated with it.
 -- Assumes nothing.
-use Prim.Native.Nat.{ℕ, _+_}
-use mathlib.Core.List.{List, [], _∷_, map}
+use Prim.Native.Nat.{ℕ}
+use mathlib.Core.List.{List, map}
 use lib.ListN.{length, getD, take}
 use Rattle.common.specs.Lists.{sum}
 use Rattle.layout.specs.Layout.{Table, tables, tableAt}

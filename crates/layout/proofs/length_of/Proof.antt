@@ -8,5 +8,7 @@ use Rattle.layout.proofs.length_of.Tie as tie
 
 pub length-of-spec : {M : Type 1} → statement M
 unfolding lengthOf endOf tableAt tables co re ar me
-length-of-spec = tie.close (tie.spec (λ c. rw (c .match .keys1)) (λ c. rw (c .match .keys2)) (λ c. rw (c .match .keys3)) (λ c. rw (c .match .keys4))
+length-of-spec =
+    tie.close (tie.spec
+    (λ c. rw (c .match .keys1)) (λ c. rw (c .match .keys2)) (λ c. rw (c .match .keys3)) (λ c. rw (c .match .keys4))
     (λ c. rw (no-table (c .before .args .table) (omega arith))))

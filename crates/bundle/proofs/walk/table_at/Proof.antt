@@ -38,8 +38,8 @@ none-3 c = more _ 2 (none-2 (c .before .before .before)) (sym (c .before .is-mar
 pub table-at-spec : {M : Type 1} → statement M
 unfolding tableOf isMark tableAt tables co re ar me
 table-at-spec =
-    tie.close (tie.spec (λ c κs. search needs)
-    (λ c. sym (hit _ 0 tableCount (start _) (sym (c .before .is-mark .ensures) ∙ c .if1 .taken) (omega arith)))
+    tie.close (tie.spec
+    (λ c κs. search needs) (λ c. sym (hit _ 0 tableCount (start _) (sym (c .before .is-mark .ensures) ∙ c .if1 .taken) (omega arith)))
     (λ c κs. search needs)
     (λ c. sym (hit _ 1 tableCount (none-1 (c .before .before .before)) (sym (c .before .is-mark2 .ensures) ∙ c .if2 .taken) (omega arith)))
     (λ c κs. search needs)

@@ -10,7 +10,6 @@ use Rattle.layout.proofs.fields.code_fits.Tie as tie
 pub code-fits-spec : {M : Type 1} → statement M
 unfolding codeFits codeOf bytesOf rowOf rowWith tableAt tables re ar
 code-fits-spec =
-    tie.close (tie.spec (λ c κs. search needs) (λ c κs. search needs)
-    (λ c. rw (c .before .match .keys1, c .number-at .ensures))
-    (λ c. rw (c .before .match .keys2, c .number-at2 .ensures))
-    (λ c. rw (no-code _ (λ e. c .match .rest .0 .1 e) (λ e. c .match .rest .1 e))))
+    tie.close (tie.spec
+    (λ c κs. search needs) (λ c κs. search needs) (λ c. rw (c .before .match .keys1, c .number-at .ensures))
+    (λ c. rw (c .before .match .keys2, c .number-at2 .ensures)) (λ c. rw (no-code _ (λ e. c .match .rest .0 .1 e) (λ e. c .match .rest .1 e))))

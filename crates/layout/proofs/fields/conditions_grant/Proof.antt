@@ -8,5 +8,7 @@ use Rattle.layout.proofs.fields.conditions_grant.Tie as tie
 
 pub conditions-grant-spec : {M : Type 1} → statement M
 unfolding grantIn numberIn byteOf bytesOf rowOf rowWith tableAt tables co
-conditions-grant-spec = tie.close (tie.spec (λ c κs. search needs) (λ c κs. search needs) (λ c κs. search needs) (λ c.
-    λ i. record { discount = c .before .before .number-at .ensures i; mode = c .before .byte-at .ensures i; factor = c .number-at2 .ensures i }))
+conditions-grant-spec =
+    tie.close (tie.spec
+    (λ c κs. search needs) (λ c κs. search needs) (λ c κs. search needs)
+    (λ c. λ i. record { discount = c .before .before .number-at .ensures i; mode = c .before .byte-at .ensures i; factor = c .number-at2 .ensures i }))

@@ -11,5 +11,7 @@ use Rattle.layout.proofs.fields.key_length.Tie as tie
 
 pub key-length-spec : {M : Type 1} → statement M
 unfolding keyLength sum rowOf rowWith tableAt tables co re ar me
-key-length-spec = tie.close (tie.spec (λ c. rw (c .match .keys1)) (λ c. rw (c .match .keys2)) (λ c. rw (c .match .keys3)) (λ c. rw (c .match .keys4))
+key-length-spec =
+    tie.close (tie.spec
+    (λ c. rw (c .match .keys1)) (λ c. rw (c .match .keys2)) (λ c. rw (c .match .keys3)) (λ c. rw (c .match .keys4))
     (λ c. rw (no-table (c .before .args .table) (omega arith))))
