@@ -160,13 +160,13 @@ pub fn broken_field(rows: &[[u32; 7]], body: &[u8]) -> usize
 }
 
 // The row of a field among some rows, all zeros where there is none.
-pub fn of_field(rows: &[[u32; 7]], field: u32) -> Row
+pub fn of_field(rows: &[[u32; 7]], field: usize) -> Row
     ensures { λ r. ⌜ r ≡ rowWith (λ (row : SpecRow). eqb (row .field) field) (map asRow (now (rows .entry))) ⌝ }
 {
     let mut k = 0;
     while k < rows.len() {
         let row = named(rows[k]);
-        if row.field == field {
+        if row.field as usize == field {
             return row;
         }
         k += 1;

@@ -38,6 +38,6 @@ loop-again c =
 pub of-field-spec : {M : Type 1} → statement M
 of-field-spec =
     tie.close (tie.spec
-    Inv-loop μ-loop (λ c. (omega arith, refl)) (λ c. search needs) (λ c. search needs) (λ c κs. search needs) returns (λ c. search needs)
+    Inv-loop μ-loop (λ c. (omega arith, refl)) (λ c. search needs) (λ c. search needs) (λ c κs. search needs) (λ c. search needs) returns (λ c. search needs)
     (λ c. search needs) loop-again (λ c κs. search needs)
     (λ c. c .named2 .ensures ∙ sym (c .before .before .loop .inv .1 ∙ with-end _ _ _ (c .before .loop-test .left))))
