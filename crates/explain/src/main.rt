@@ -1,11 +1,10 @@
 // Reads a bundle from standard input and tells the verdict on it in words, for the railway that delivered it.
+use names::field_names;
+use names::words;
 use offers::Judgement;
 
-mod field_names;
-mod field_rules;
 mod places;
 mod refusals;
-mod words;
 
 fn write_line(verdict: Judgement) {
     match verdict {

@@ -1,18 +1,6 @@
 // Where the records of a bundle stand.
 use bundle::walk::table_at;
-
-const LIMIT: usize = 1048576;
-
-// The sum of two places or lengths. None is ever above the limit; the tests stand in for a proof of that.
-pub fn sum(a: usize, b: usize) -> usize {
-    if LIMIT < a {
-        return a;
-    }
-    if LIMIT < b {
-        return a;
-    }
-    a + b
-}
+use names::words::sum;
 
 // The bytes behind the mark at a place that belong to its record: fewer than it needs, where the bundle ends before.
 pub fn body_at(bundle: &[u8], at: usize) -> &[u8] {

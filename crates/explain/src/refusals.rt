@@ -1,19 +1,19 @@
 // Each refusal of a bundle in words: what is wrong, with which record, and what would be right.
-use super::field_names::say_field;
-use super::field_names::say_mark;
-use super::field_names::say_table;
 use super::places::body_at;
 use super::places::place_of;
-use super::places::sum;
-use super::words::say;
-use super::words::say_bytes;
-use super::words::say_number;
-use super::words::say_quoted;
 use bundle::walk::table_at;
 use common::Refusal;
 use layout::fields;
 use layout::rows;
 use layout::rows::Row;
+use names::field_names::say_field;
+use names::field_names::say_mark;
+use names::field_names::say_table;
+use names::words::say;
+use names::words::say_bytes;
+use names::words::say_number;
+use names::words::say_quoted;
+use names::words::sum;
 
 pub fn tell(bundle: &[u8], why: Refusal) {
     let number = why.number;
@@ -131,7 +131,7 @@ fn tell_broken_field(bundle: &[u8], record: usize, field: usize) {
     say(b"Delivered: ");
     say_quoted(fields::field(body, row.start, row.length));
     say(b".\n");
-    super::field_rules::say_rule(row, body);
+    names::field_rules::say_rule(row, body);
 }
 
 // A field's number and name, and where it stands in the record and in the bundle.

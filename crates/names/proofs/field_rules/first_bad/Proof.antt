@@ -1,10 +1,10 @@
--- `explain::field_rules::first_bad` stays in bounds and ends: each turn leaves a byte less to look at.
+-- `names::field_rules::first_bad` stays in bounds and ends: each turn leaves a byte less to look at.
 -- Assumes nothing.
 use Prim.Native.Nat.{_≤_, _-_}
 use lib.ListN.{length}
 use borrow.Author.Needs.{needs}
-use Rattle.explain.proofs.field_rules.first_bad.Statement.{statement}
-use Rattle.explain.proofs.field_rules.first_bad.Tie as tie
+use Rattle.names.proofs.field_rules.first_bad.Statement.{statement}
+use Rattle.names.proofs.field_rules.first_bad.Tie as tie
 
 abbrev Inv-loop : tie.InvT-loop
 Inv-loop text i₀ i = i ≤ length text

@@ -1,10 +1,10 @@
--- `explain::words::say_bytes` stays in bounds and ends: each turn leaves a byte less to write.
+-- `names::words::say_bytes` stays in bounds and ends: each turn leaves a byte less to write.
 -- Assumes nothing.
 use Prim.Native.Nat.{_≤_, _-_}
 use lib.ListN.{length}
 use borrow.Author.Needs.{needs}
-use Rattle.explain.proofs.words.say_bytes.Statement.{statement}
-use Rattle.explain.proofs.words.say_bytes.Tie as tie
+use Rattle.names.proofs.words.say_bytes.Statement.{statement}
+use Rattle.names.proofs.words.say_bytes.Tie as tie
 
 abbrev Inv-loop : tie.InvT-loop
 Inv-loop s i₀ i = i ≤ length s

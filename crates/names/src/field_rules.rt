@@ -3,6 +3,7 @@ use super::words::say;
 use super::words::say_digits;
 use super::words::say_number;
 use super::words::say_quoted;
+use super::words::sum;
 use layout::fields;
 use layout::rows::Row;
 use layout::rules;
@@ -46,9 +47,9 @@ fn say_text_rule(body: &[u8], start: usize, length: usize) {
     let text = fields::field(body, start, length);
     let bad = first_bad(text);
     say(b"text, of bytes 32 to 126 and 160 to 255 only; the first other byte is ");
-    say_number(common::byte_at(text, super::places::sum(bad, 1)) as usize);
+    say_number(common::byte_at(text, sum(bad, 1)) as usize);
     say(b", at position ");
-    say_number(super::places::sum(start, bad));
+    say_number(sum(start, bad));
 }
 
 // The first byte of a text, from 0, that no text may have.
