@@ -12,7 +12,7 @@ use Rattle.common.specs.Least.{least}
 use Rattle.common.specs.Lists.{same}
 use Rattle.common.proofs.Least.{passes}
 use Rattle.common.proofs.Lists.{same-is}
-use Rattle.layout.specs.Layout.{tableCount, tables, tableAt, co, re, ar, me, lengthOf}
+use Rattle.layout.specs.Layout.{tableCount, tables, tableAt, lengthOf}
 use Rattle.layout.proofs.Tables.{mark-length}
 use Rattle.bundle.specs.Records.{tableOf, stepOf}
 use Rattle.bundle.specs.Helpers.{isMark, stepAt}
@@ -82,7 +82,7 @@ whole-lies s t start next e =
 
 -- where nothing is left there is no mark
 pub nothing-there : stepOf [] ≡ Unknown
-unfolding stepOf tableOf least same tableAt tables co re ar me
+unfolding stepOf tableOf least same tableAt tables
 nothing-there = refl
 
 -- THE STEP AT A PLACE, by its tests

@@ -4,7 +4,7 @@ use Prim.Native.Nat.{_+_, _-_}
 use mathlib.Core.Path.{_≡_}
 use native.Mathlib.Omega.{arith}
 use borrow.Author.Needs.{needs}
-use Rattle.layout.specs.Layout.{tableAt, tables, co}
+use Rattle.layout.specs.Layout.{tableAt, tables}
 use Rattle.layout.specs.Fields.{rowWith, rowOf, byteOf, isYes}
 use Rattle.layout.proofs.Tables.{flags-stand, no-flag-before, no-flag-behind}
 use Rattle.layout.proofs.fields.is_yes.Statement.{statement}
@@ -19,7 +19,7 @@ returns-4 c =
     rw (s .0, s .1, c .byte-at2 .ensures)
 
 pub is-yes-spec : {M : Type 1} → statement M
-unfolding isYes byteOf rowOf rowWith tableAt tables co
+unfolding isYes byteOf rowOf rowWith tableAt tables
 is-yes-spec =
     tie.close (tie.spec
     (λ c κs. search needs) (λ c. rw (c .before .if1 .taken, c .byte-at .ensures)) (λ c. rw (no-flag-before _ (c .if2 .taken) (c .before .if1 .left)))
