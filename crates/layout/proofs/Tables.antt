@@ -22,7 +22,7 @@ use Rattle.layout.specs.Layout.{CO, NUMBER, FIRST-DAY, LAST-DAY, Table, 
 use Rattle.layout.specs.Fields.{fieldAt, bytesIn, rowWith, rowOf, bytesOf, transferorOf, offerOf, railwayOf, codeOf, codeFits, sameKey, dayRow, hasPeriod, isFlagRow}
 use Rattle.layout.specs.Company.{isCompany}
 use Rattle.layout.specs.Rules.{ruled, obeysRow, firstBroken, brokenField, keepsRules}
-use Rattle.layout.specs.Helpers.{asRow, firstRow, noSpan, codeSpan, keyLength}
+use Rattle.layout.specs.Helpers.{asRow, rowCount, firstRow, noSpan, codeSpan, keyLength}
 use Rattle.layout.specs.declared.fields.Span.{Span}
 use Rattle.layout.specs.declared.rows.Row.{Row}
 
@@ -231,15 +231,15 @@ in-turn u (suc t) (b ∷ bs) =
     rw (← length-map (b .rows) (numbers u)) (drop-append-add (map (numbers u) (b .rows)) (layoutFrom (u + 1) bs) n) in
     rw (e, m, d, ← q) (in-turn (u + 1) t bs)
 
-pub all-before : (t : ℕ) → tableCount ≤ t → firstRow t ≡ 57
+pub all-before : (t : ℕ) → tableCount ≤ t → firstRow t ≡ rowCount
 unfolding firstRow sum tables
 all-before t h = rw (take-all t tables h)
 
-pub in-layout : (t : ℕ) → t < tableCount → (firstRow t ≤ firstRow (t + 1)) × (firstRow (t + 1) ≤ 57)
+pub in-layout : (t : ℕ) → t < tableCount → (firstRow t ≤ firstRow (t + 1)) × (firstRow (t + 1) ≤ rowCount)
 unfolding least firstRow sum tables
 in-layout t h = (
   leb-true _ _ (computed (λ u. leb (firstRow u) (firstRow (u + 1))) tableCount refl t h),
-  leb-true _ _ (computed (λ u. leb (firstRow (u + 1)) 57) tableCount refl t h),
+  leb-true _ _ (computed (λ u. leb (firstRow (u + 1)) rowCount) tableCount refl t h),
 )
 
 -- so the walk over them finds the first field that breaks its rule.

@@ -15,6 +15,10 @@ use Rattle.layout.specs.declared.fields.Span.{Span}
 abbrev pub asRow : List ℕ → Row
 asRow e = record { field = getD e 1 0; start = getD e 2 0; length = getD e 3 0; kind = getD e 4 0; least = getD e 5 0; most = getD e 6 0 }
 
+-- how many rows the layout has
+abbrev pub rowCount : ℕ
+rowCount = 57
+
 -- where the rows of a table start in the layout: behind those of the tables before it
 unfoldable pub firstRow : ℕ → ℕ
 firstRow t = sum (map (λ (b : Table). length (b .rows)) (take t tables))

@@ -3,6 +3,7 @@
 use Prim.Native.Nat.{_+_, _≤_}
 use native.Mathlib.Omega.{arith}
 use borrow.Author.Needs.{needs}
+use Rattle.layout.specs.Helpers.{rowCount}
 use Rattle.layout.proofs.Tables.{in-layout, all-before}
 use Rattle.layout.proofs.rows.of_table.Statement.{statement}
 use Rattle.layout.proofs.rows.of_table.Tie as tie
@@ -13,7 +14,7 @@ returns c =
     rw (all-before t (omega arith), all-before (t + 1) (omega arith))
 
 -- both ends lie in the table
-ends : (c : tie.After-first-row2) → (c .before .first-row .result ≤ c .first-row2 .result) × (c .first-row2 .result ≤ 57)
+ends : (c : tie.After-first-row2) → (c .before .first-row .result ≤ c .first-row2 .result) × (c .first-row2 .result ≤ rowCount)
 ends c =
     let l = in-layout _ (c .before .before .if1 .left) in
     (rw (c .before .first-row .ensures, c .first-row2 .ensures) (l .0), rw (c .first-row2 .ensures) (l .1))
