@@ -4,3 +4,4 @@ pub mod PassLaws
 pub mod ChoiceLaws
 pub mod CutAndJoin
 pub mod Meaning
+pub mod Unique

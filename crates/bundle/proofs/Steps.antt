@@ -1,6 +1,6 @@
 -- Laws of one step: the marks one by one, and what a whole record says of its place.
 -- Assumes nothing.
-use Prim.Native.Nat.{ℕ, suc, _+_, _-_, _*_, _≤_, _<_}
+use Prim.Native.Nat.{ℕ, _+_, _-_, _*_, _≤_, _<_}
 use mathlib.Core.Path.{_≡_, refl, sym, _∙_, ap}
 use mathlib.Core.Bool.{Bool, true, false, cond, _&&_, and-false, and-true}
 use mathlib.Core.List.{List, [], _∷_}
@@ -12,7 +12,7 @@ use Rattle.common.specs.Least.{least}
 use Rattle.common.specs.Lists.{same}
 use Rattle.common.proofs.Least.{passes}
 use Rattle.common.proofs.Lists.{same-is}
-use Rattle.layout.specs.Layout.{tableCount, tables, tableAt, co, re, ar, me, lengthOf}
+use Rattle.layout.specs.Layout.{tableCount, tables, tableAt, lengthOf}
 use Rattle.layout.proofs.Tables.{mark-length}
 use Rattle.bundle.specs.Records.{tableOf, stepOf}
 use Rattle.bundle.specs.Helpers.{isMark, stepAt}
@@ -82,7 +82,7 @@ whole-lies s t start next e =
 
 -- where nothing is left there is no mark
 pub nothing-there : stepOf [] ≡ Unknown
-unfolding stepOf tableOf least same tableAt tables co re ar me
+unfolding stepOf tableOf least same tableAt tables
 nothing-there = refl
 
 -- THE STEP AT A PLACE, by its tests

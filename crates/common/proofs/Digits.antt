@@ -90,3 +90,13 @@ after-same (x ∷ a) (y ∷ b) u w l p q =
 pub digits-same : (a b : List ℕ) (v : ℕ) → length a ≡ length b → numberOf a ≡ Is v → numberOf b ≡ Is v → a ≡ b
 unfolding numberOf
 digits-same a b v l p q = after-same a b 0 0 l (in-nine (ltb 9 (length a)) _ p) (in-nine (ltb 9 (length b)) _ q) .1
+
+-- two numbers within limits, of equally many digits, that say the same are the same digits
+is-number : (lowest highest : ℕ) (n : Num) → isWithin lowest highest n ≡ true → n ≡ Is (valueOf n)
+is-number lowest highest (Is v) e = refl
+is-number lowest highest Not e = never e refl
+
+pub within-same : (lowest highest : ℕ) (a b : List ℕ) → length a ≡ length b → isWithin lowest highest (numberOf a) ≡ true → isWithin lowest highest (numberOf b) ≡ true
+    → valueOf (numberOf a) ≡ valueOf (numberOf b) → a ≡ b
+within-same lowest highest a b l p q e =
+    digits-same a b (valueOf (numberOf a)) l (is-number lowest highest (numberOf a) p) (rw e (is-number lowest highest (numberOf b) q))

@@ -148,3 +148,9 @@ same-parts (suc l) n (x ∷ a) [] = let e : suc l + n ≡ suc (l + n) = omega ar
 same-parts (suc l) n (x ∷ a) (y ∷ b) =
     let e : suc l + n ≡ suc (l + n) = omega arith in
     rw (e, same-parts l n a b) (sym (and-assoc (eqb x y) (same (take l a) (take l b)) (same (take n (drop l a)) (take n (drop l b)))))
+
+-- what follows from a test that each passes, each passes
+pub every-so : {A : Type 0} (p q : A → Bool) (xs : List A) → ((x : A) → p x ≡ true → q x ≡ true) → every p xs ≡ true → every q xs ≡ true
+unfolding every
+every-so p q [] f e = refl
+every-so p q (x ∷ xs) f e = let d = both-true (p x) (every p xs) e in rw (f x (d .0), every-so p q xs f (d .1))

@@ -1,11 +1,10 @@
 // Reads a bundle from standard input and tells the verdict on it in words, for the railway that delivered it.
+use names::field_names;
+use names::words;
 use offers::Judgement;
 
-mod field_names;
-mod field_rules;
 mod places;
 mod refusals;
-mod words;
 
 fn write_line(verdict: Judgement) {
     match verdict {
@@ -13,19 +12,19 @@ fn write_line(verdict: Judgement) {
             words::say(b"OK ");
             words::say_number(records);
         }
-        Judgement::Refused(number, place, detail) => {
+        Judgement::Refused(why) => {
             words::say(b"NO ");
-            words::say_number(number as usize);
+            words::say_number(why.number as usize);
             words::say(b" ");
-            words::say_number(place);
+            words::say_number(why.place);
             words::say(b" ");
-            words::say_number(detail);
+            words::say_number(why.detail);
         }
     }
     words::say(b"\n");
 }
 
-fn tell_count(bundle: &[u8], records: usize, table: u8) {
+fn tell_count(bundle: &[u8], records: usize, table: u32) {
     field_names::say_table(table);
     words::say(b": ");
     words::say_number(places::count_of(bundle, records, table));
@@ -45,7 +44,7 @@ fn explain(bundle: &[u8]) {
     write_line(verdict);
     match verdict {
         Judgement::Accepted(records) => tell_accepted(bundle, records),
-        Judgement::Refused(number, place, detail) => refusals::tell(bundle, number, place, detail),
+        Judgement::Refused(why) => refusals::tell(bundle, why),
     }
 }
 

@@ -1,22 +1,6 @@
 // Where the records of a bundle stand.
-
-const LIMIT: usize = 1048576;
-
-// The sum of two places or lengths. None is ever above the limit; the tests stand in for a proof of that.
-pub fn sum(a: usize, b: usize) -> usize {
-    if LIMIT < a {
-        return a;
-    }
-    if LIMIT < b {
-        return a;
-    }
-    a + b
-}
-
-// The table whose mark stands at a place, TABLES where there is no mark.
-pub fn table_at(bundle: &[u8], at: usize) -> u8 {
-    bundle::walk::table_of(common::part(bundle, at, 2))
-}
+use bundle::walk::table_at;
+use names::words::sum;
 
 // The bytes behind the mark at a place that belong to its record: fewer than it needs, where the bundle ends before.
 pub fn body_at(bundle: &[u8], at: usize) -> &[u8] {
@@ -41,7 +25,7 @@ pub fn place_of(bundle: &[u8], record: usize) -> usize {
 }
 
 // How many of the first records are of a table.
-pub fn count_of(bundle: &[u8], records: usize, table: u8) -> usize {
+pub fn count_of(bundle: &[u8], records: usize, table: u32) -> usize {
     let mut count = 0;
     let mut at = 0;
     let mut i = 0;

@@ -1,23 +1,29 @@
 // Each refusal of a bundle in words: what is wrong, with which record, and what would be right.
-use super::field_names::say_field;
-use super::field_names::say_mark;
-use super::field_names::say_table;
 use super::places::body_at;
 use super::places::place_of;
-use super::places::sum;
-use super::places::table_at;
-use super::words::say;
-use super::words::say_bytes;
-use super::words::say_number;
-use super::words::say_quoted;
-use layout::Row;
+use bundle::walk::table_at;
+use common::Refusal;
+use layout::fields;
+use layout::rows;
+use layout::rows::Row;
+use names::field_names::say_field;
+use names::field_names::say_mark;
+use names::field_names::say_table;
+use names::words::say;
+use names::words::say_bytes;
+use names::words::say_number;
+use names::words::say_quoted;
+use names::words::sum;
 
-pub fn tell(bundle: &[u8], number: u8, record: usize, detail: usize) {
+pub fn tell(bundle: &[u8], why: Refusal) {
+    let number = why.number;
+    let record = why.place;
+    let detail = why.detail;
     match number {
         1 => tell_too_long(),
         2 => tell_no_mark(bundle, record),
         3 => tell_cut_short(bundle, record),
-        4 => tell_broken_field(bundle, record),
+        4 => tell_broken_field(bundle, record, detail),
         5 => tell_other_transferor(bundle, record),
         6 => tell_repeated_key(bundle, record, detail),
         7 => tell_missing_link(bundle, record, detail),
@@ -31,28 +37,28 @@ fn tell_too_long() {
 }
 
 // What names a record within its table: offer and railway, or code, or all three.
-fn say_key(table: u8, body: &[u8]) {
+fn say_key(table: u32, body: &[u8]) {
     if table == layout::RE {
         say(b"code ");
-        say_bytes(layout::field(body, 5, 3));
+        say_bytes(fields::code(table, body));
         return;
     }
     say(b"offer ");
-    say_bytes(layout::field(body, 5, 5));
+    say_bytes(fields::offer(body));
     say(b", railway ");
-    say_bytes(layout::field(body, 10, 4));
+    say_bytes(fields::railway(body));
     if table == layout::AR {
         say(b", code ");
-        say_bytes(layout::field(body, 14, 3));
+        say_bytes(fields::code(table, body));
     }
 }
 
-// The last position of the key.
-fn key_end(table: u8) -> usize {
+// Whether the last field of the key is there whole, in a record that may be cut short.
+fn has_key(table: u32, body: &[u8]) -> bool {
     match table {
-        layout::RE => 7,
-        layout::AR => 16,
-        _ => 13,
+        layout::RE => fields::code(table, body).len() == 3,
+        layout::AR => fields::code(table, body).len() == 3,
+        _ => fields::railway(body).len() == 4,
     }
 }
 
@@ -63,7 +69,7 @@ fn tell_record(bundle: &[u8], record: usize, at: usize) {
     say_number(record);
     say(b", counted from 0, is of table ");
     say_table(table);
-    if key_end(table) <= body.len() {
+    if has_key(table, body) {
         say(b": ");
         say_key(table, body);
     }
@@ -113,28 +119,29 @@ fn tell_cut_short(bundle: &[u8], record: usize) {
     say(b" left.\n");
 }
 
-fn tell_broken_field(bundle: &[u8], record: usize) {
+fn tell_broken_field(bundle: &[u8], record: usize, field: usize) {
     let at = place_of(bundle, record);
     let table = table_at(bundle, at);
     let body = body_at(bundle, at);
-    let row = layout::row_at(layout::broken_row(table, body));
+    let all = rows::all();
+    let row = rows::of_field(rows::of_table(&all, table), field);
     say(b"A field breaks its rule.\n");
     tell_record(bundle, record, at);
-    tell_field(row, at);
+    tell_field(table, row, at);
     say(b"Delivered: ");
-    say_quoted(layout::field(body, row.start, row.length));
+    say_quoted(fields::field(body, row.start, row.length));
     say(b".\n");
-    super::field_rules::say_rule(row, body);
+    names::field_rules::say_rule(row, body);
 }
 
 // A field's number and name, and where it stands in the record and in the bundle.
-fn tell_field(row: Row, at: usize) {
+fn tell_field(table: u32, row: Row, at: usize) {
     let start = row.start;
     let length = row.length;
     say(b"Field ");
     say_number(row.field as usize);
     say(b", ");
-    say_field(row.table, row.field);
+    say_field(table, row.field);
     say(b": ");
     say_span(b"position", start, length);
     say(b" of the record, counted from 1 behind the mark; ");
@@ -161,9 +168,9 @@ fn tell_other_transferor(bundle: &[u8], record: usize) {
     say(b"The record has another transferor than record 0.\n");
     tell_record(bundle, record, at);
     say(b"Its field 1, transferor, is ");
-    say_quoted(layout::field(body_at(bundle, at), 1, 4));
+    say_quoted(fields::transferor(body_at(bundle, at)));
     say(b"; that of record 0 is ");
-    say_quoted(layout::field(body_at(bundle, 0), 1, 4));
+    say_quoted(fields::transferor(body_at(bundle, 0)));
     say(b". All records of a bundle have the same transferor.\n");
 }
 
@@ -199,20 +206,20 @@ fn tell_missing_link(bundle: &[u8], record: usize, detail: usize) {
 
 fn tell_code_wanted(body: &[u8]) {
     say(b"An AR record needs the RE record of its code, so an RE record of code ");
-    say_bytes(layout::field(body, 14, 3));
+    say_bytes(fields::code(layout::AR, body));
 }
 
-fn tell_conditions_wanted(table: u8, body: &[u8]) {
+fn tell_conditions_wanted(table: u32, body: &[u8]) {
     say(b"An ");
     say_mark(table);
     say(b" record needs a CO record of its offer, so a CO record of offer ");
-    say_bytes(layout::field(body, 5, 5));
+    say_bytes(fields::offer(body));
     say(b" for any railway");
 }
 
 // A CO record's flag that is Y wants a record of its offer, for its railway or for all of them.
-fn tell_flag_wants(flag: u8, wants: u8, body: &[u8]) {
-    let railway = layout::field(body, 10, 4);
+fn tell_flag_wants(flag: u32, wants: u32, body: &[u8]) {
+    let railway = fields::railway(body);
     say(b"Flag ");
     say_number(flag as usize);
     say(b", ");
@@ -220,7 +227,7 @@ fn tell_flag_wants(flag: u8, wants: u8, body: &[u8]) {
     say(b", is Y, so an ");
     say_mark(wants);
     say(b" record of offer ");
-    say_bytes(layout::field(body, 5, 5));
+    say_bytes(fields::offer(body));
     if layout::company::is_all_railways(railway) {
         say(b" for any railway");
     } else {

@@ -2,7 +2,7 @@
 -- a further block in the layout runs the tests again and changes no law.
 -- Assumes nothing.
 use Prim.Native.Nat.{ℕ, zero, suc, _+_, _-_, _≤_, _<_}
-use mathlib.Core.Path.{_≡_, refl, sym, ap, ap₂, _∙_}
+use mathlib.Core.Path.{_≡_, refl, ap, _∙_}
 use mathlib.Core.Bool.{Bool, true, false, cond, not, _&&_, _||_}
 use mathlib.Core.List.{List, [], _∷_, _++_, map}
 use mathlib.Core.Logic.{⊎-elim}
@@ -11,16 +11,19 @@ use native.Mathlib.Nat.{zero-add, add-zero}
 use lib.Dec.{eqb, leb, ltb}
 use lib.ListN.{length, getD, take, drop, length-map, List·getD-eq-default}
 use lib.Seq.{take-all, take-at, take-nil, drop-append-add, drop-drop}
-use borrow.Author.Tests.{not-true, not-false, eqb-true, leb-true, ltb-true, ne-eqb}
+use borrow.Author.Tests.{not-true, not-false, eqb-true, leb-true, ltb-true, eq-eqb, ne-eqb}
 use Rattle.common.specs.Least.{least}
 use Rattle.common.specs.Lists.{every, any, same, sum}
 use Rattle.common.proofs.Least.{before}
-use Rattle.common.proofs.Lists.{same-parts}
+use Rattle.common.specs.Digits.{numberOf, valueOf, isWithin}
+use Rattle.common.proofs.Lists.{same-is, same-parts}
 use Rattle.common.proofs.Tests.{never, both-true, side}
-use Rattle.layout.specs.Layout.{CO, RE, AR, FIRST-DAY, LAST-DAY, Table, noTable, noRow, tables, tableCount, tableAt, co, re, ar, me, endOf, lengthOf, standFrom, numbers, layoutFrom, layout}
-use Rattle.layout.specs.Fields.{bytesIn, rowWith, rowOf, bytesOf, transferorOf, offerOf, railwayOf, sameKey, dayRow, hasPeriod, isFlagRow}
-use Rattle.layout.specs.Rules.{obeysRow, firstBroken, brokenField, keepsRules}
-use Rattle.layout.specs.Helpers.{asRow, firstRow, keyLength}
+use Rattle.layout.specs.Layout.{CO, NUMBER, FIRST-DAY, LAST-DAY, Table, noTable, tables, tableCount, tableAt, endOf, lengthOf, standFrom, numbers, layoutFrom, layout}
+use Rattle.layout.specs.Fields.{fieldAt, bytesIn, rowWith, rowOf, bytesOf, transferorOf, offerOf, railwayOf, codeOf, codeFits, sameKey, dayRow, hasPeriod, isFlagRow}
+use Rattle.layout.specs.Company.{isCompany}
+use Rattle.layout.specs.Rules.{ruled, obeysRow, firstBroken, brokenField, keepsRules}
+use Rattle.layout.specs.Helpers.{asRow, rowCount, firstRow, noSpan, codeSpan, keyLength}
+use Rattle.layout.specs.declared.fields.Span.{Span}
 use Rattle.layout.specs.declared.rows.Row.{Row}
 
 -- a test that no number below n fails holds at each
@@ -34,68 +37,105 @@ no-table t h = List·getD-eq-default tables noTable {n = t} h
 
 -- THE ROWS OF EACH TABLE STAND from position 1 to its length, with no gap and no overlap
 pub rows-stand : every (λ (b : Table). standFrom 1 (b .rows)) tables ≡ true
-unfolding tables co re ar me every standFrom
+unfolding tables every standFrom
 rows-stand = refl
 
 -- no record is longer than a memo
 pub length-most : (t : ℕ) → lengthOf t ≤ 1231
-unfolding least lengthOf endOf tableAt tables co re ar me
+unfolding least lengthOf endOf tableAt tables
 length-most t =
     ⊎-elim (λ h. leb-true (lengthOf t) 1231 (computed (λ u. leb (lengthOf u) 1231) tableCount refl t h))
     (λ h. rw (no-table t h) (omega arith)) (side t tableCount)
 
 -- MARKS have two bytes and differ: the first table that has the mark of t is t
 pub mark-length : (t : ℕ) → t < tableCount → length (tableAt t .mark) ≡ 2
-unfolding least tableAt tables co re ar me
+unfolding least tableAt tables
 mark-length t h = eqb-true (length (tableAt t .mark)) 2 (computed (λ u. eqb (length (tableAt u .mark)) 2) tableCount refl t h)
 
 pub marks-differ : (t : ℕ) → t < tableCount → least (λ u. same (tableAt t .mark) (tableAt u .mark)) tableCount ≡ t
-unfolding least same tableAt tables co re ar me
+unfolding least same tableAt tables
 marks-differ t h =
     eqb-true (least (λ u. same (tableAt t .mark) (tableAt u .mark)) tableCount) t
     (computed (λ v. eqb (least (λ u. same (tableAt v .mark) (tableAt u .mark)) tableCount) v) tableCount refl t h)
 
--- ALIKE: field 1 of every table, and fields 2 and 3 of every table that has a railway, stand where CO has them
+-- ALIKE: the rows of field 1 in every table, and of fields 2 and 3 in every table that has a railway, are CO's
 abbrev alike : ℕ → ℕ → Bool
-alike f t = eqb (rowOf t f .start) (rowOf CO f .start) && eqb (rowOf t f .length) (rowOf CO f .length)
+alike f t = same (numbers 0 (rowOf t f)) (numbers 0 (rowOf CO f))
+
+abbrev has : ℕ → ℕ → Bool
+has f t = any (λ (r : Row). eqb (r .field) f) (tableAt t .rows)
 
 -- a table of offers: field 3, the railway, is in its key
-abbrev pub ofOffers : ℕ → Bool
+unfoldable pub ofOffers : ℕ → Bool
 ofOffers t = any (eqb 3) (tableAt t .key)
 
-stand-alike : (f t : ℕ) (body : List ℕ) → alike f t ≡ true → bytesOf t f body ≡ bytesOf CO f body
-unfolding bytesOf
-stand-alike f t body e =
-    let d = both-true (eqb (rowOf t f .start) (rowOf CO f .start)) (eqb (rowOf t f .length) (rowOf CO f .length)) e in
-    rw (eqb-true (rowOf t f .start) (rowOf CO f .start) (d .0), eqb-true (rowOf t f .length) (rowOf CO f .length) (d .1))
+row-alike : (f t : ℕ) → alike f t ≡ true → rowOf t f ≡ rowOf CO f
+row-alike f t e = ap asRow (same-is (numbers 0 (rowOf t f)) (numbers 0 (rowOf CO f)) e)
 
 pub transferor-stands : (t : ℕ) (body : List ℕ) → t < tableCount → bytesOf t 1 body ≡ transferorOf body
-unfolding least rowOf rowWith tableAt tables co re ar me transferorOf
-transferor-stands t body h = stand-alike 1 t body (computed (alike 1) tableCount refl t h)
+unfolding least same rowOf rowWith tableAt tables transferorOf bytesOf
+transferor-stands t body h = ap (λ r. bytesIn r body) (row-alike 1 t (computed (alike 1) tableCount refl t h))
 
-if-offers : (b : Bool) {d : Bool} → b ≡ true → (not b || d) ≡ true → d ≡ true
-if-offers b e h = rw e at h
+if-so : (b : Bool) {d : Bool} → b ≡ true → (not b || d) ≡ true → d ≡ true
+if-so b e h = rw e at h
 
-named-offers : (t : ℕ) → ofOffers t ≡ true → t < tableCount
-unfolding any
-named-offers t e = ⊎-elim (λ h. h) (λ h. never (rw (no-table t h) at e) refl) (side t tableCount)
+module _ (t : ℕ) (o : ofOffers t ≡ true) where
+  named-offers : t < tableCount
+  unfolding ofOffers any
+  named-offers = ⊎-elim (λ h. h) (λ h. never (rw (no-table t h) at o) refl) (side t tableCount)
 
-module _ (t : ℕ) (body : List ℕ) (o : ofOffers t ≡ true) where
-  pub offer-stands : bytesOf t 2 body ≡ offerOf body
-  unfolding least any rowOf rowWith tableAt tables co re ar me offerOf
-  offer-stands = stand-alike 2 t body (if-offers (ofOffers t) o (computed (λ u. not (ofOffers u) || alike 2 u) tableCount refl t (named-offers t o)))
+  offer-row : (rowOf t 2 ≡ rowOf CO 2) × (has 2 t ≡ true)
+  unfolding least any same ofOffers rowOf rowWith tableAt tables
+  offer-row = (
+    row-alike 2 t (if-so (ofOffers t) o (computed (λ u. not (ofOffers u) || alike 2 u) tableCount refl t named-offers)),
+    if-so (ofOffers t) o (computed (λ u. not (ofOffers u) || has 2 u) tableCount refl t named-offers),
+  )
 
-  pub railway-stands : bytesOf t 3 body ≡ railwayOf body
-  unfolding least any rowOf rowWith tableAt tables co re ar me railwayOf
-  railway-stands = stand-alike 3 t body (if-offers (ofOffers t) o (computed (λ u. not (ofOffers u) || alike 3 u) tableCount refl t (named-offers t o)))
+  railway-row : (rowOf t 3 ≡ rowOf CO 3) × (has 3 t ≡ true)
+  unfolding least any same ofOffers rowOf rowWith tableAt tables
+  railway-row = (
+    row-alike 3 t (if-so (ofOffers t) o (computed (λ u. not (ofOffers u) || alike 3 u) tableCount refl t named-offers)),
+    if-so (ofOffers t) o (computed (λ u. not (ofOffers u) || has 3 u) tableCount refl t named-offers),
+  )
 
--- CODES: no table but RE and AR has one
-pub no-code : (t : ℕ) → (t ≡ RE → ⊥) → (t ≡ AR → ⊥) → tableAt t .code ≡ 0
-unfolding least tableAt tables co re ar me
-no-code t n m =
-    ⊎-elim
-    (λ h. eqb-true (tableAt t .code) 0 (rw (ne-eqb t RE n, ne-eqb t AR m) at (computed (λ u. eqb u RE || (eqb u AR || eqb (tableAt u .code) 0)) tableCount refl t h)))
-    (λ h. rw (no-table t h)) (side t tableCount)
+  pub offer-stands : (body : List ℕ) → bytesOf t 2 body ≡ offerOf body
+  unfolding offerOf bytesOf
+  offer-stands body = ap (λ r. bytesIn r body) (offer-row .0)
+
+  pub railway-stands : (body : List ℕ) → bytesOf t 3 body ≡ railwayOf body
+  unfolding railwayOf bytesOf
+  railway-stands body = ap (λ r. bytesIn r body) (railway-row .0)
+
+-- CODES: where a table has one, it has bytes, and the span says where
+codes-long : (t : ℕ) → (eqb (tableAt t .code) 0 || not (eqb (rowOf t (tableAt t .code) .length) 0)) ≡ true
+unfolding least rowOf rowWith tableAt tables
+codes-long t =
+    ⊎-elim (computed (λ u. eqb (tableAt u .code) 0 || not (eqb (rowOf u (tableAt u .code) .length) 0)) tableCount refl t) (λ h. rw (no-table t h)) (side t tableCount)
+
+module _ (t : ℕ) (body : List ℕ) where
+  pub code-spanned : fieldAt (codeSpan t .0) (codeSpan t .1) body ≡ codeOf t body
+  unfolding codeSpan codeOf bytesOf
+  code-spanned = go (eqb (tableAt t .code) 0) (rowOf t (tableAt t .code) .start, rowOf t (tableAt t .code) .length)
+    where
+      go : (b : Bool) (u : Span) → fieldAt (cond b noSpan u .0) (cond b noSpan u .1) body ≡ cond b [] (fieldAt (u .0) (u .1) body)
+      go true u = refl
+      go false u = refl
+
+  pub no-span : (code : ℕ) → codeSpan t .1 ≡ 0 → true ≡ codeFits t code body
+  unfolding codeSpan codeFits
+  no-span code e = go (eqb (tableAt t .code) 0) (rowOf t (tableAt t .code) .start, rowOf t (tableAt t .code) .length) (codes-long t) e _
+    where
+      go : (b : Bool) (u : Span) → (b || not (eqb (u .1) 0)) ≡ true → cond b noSpan u .1 ≡ 0 → (x : Bool) → true ≡ cond b true x
+      go true u l e x = refl
+      go false u l e x = never l (rw (eq-eqb (u .1) 0 e))
+
+  pub a-span : (code : ℕ) → (codeSpan t .1 ≡ 0 → ⊥) → eqb (valueOf (numberOf (fieldAt (codeSpan t .0) (codeSpan t .1) body))) code ≡ codeFits t code body
+  unfolding codeSpan codeFits
+  a-span code n = ap (λ s. eqb (valueOf (numberOf s)) code) code-spanned ∙ go (eqb (tableAt t .code) 0) (rowOf t (tableAt t .code) .start, rowOf t (tableAt t .code) .length) n _
+    where
+      go : (b : Bool) (u : Span) → (cond b noSpan u .1 ≡ 0 → ⊥) → (x : Bool) → x ≡ cond b true x
+      go true u n x = absurd (n refl)
+      go false u n x = refl
 
 -- KEYS: fields that stand one behind the other are the same exactly if their bytes are, taken together,
 abbrev lengthIn : ℕ → List ℕ → ℕ
@@ -116,7 +156,7 @@ at-once t p (f ∷ fs) a b e =
 
 -- and the key of every table stands from position 5 on.
 key-stands : (t : ℕ) → standFrom 5 (map (rowOf t) (tableAt t .key)) ≡ true
-unfolding least standFrom rowOf rowWith tableAt tables co re ar me
+unfolding least standFrom rowOf rowWith tableAt tables
 key-stands t =
     ⊎-elim (computed (λ u. standFrom 5 (map (rowOf u) (tableAt u .key))) tableCount refl t) (λ h. rw (no-table t h)) (side t tableCount)
 
@@ -133,7 +173,7 @@ pub record Period (t : ℕ) : Type 0 where
   pub last-long : dayRow LAST-DAY t .length ≡ 8
 
 pub period : (t : ℕ) → t < tableCount → Period t
-unfolding least any hasPeriod dayRow rowWith lengthOf endOf tableAt tables co re ar me
+unfolding least any hasPeriod dayRow rowWith lengthOf endOf tableAt tables
 period t h =
     record {
       has = computed hasPeriod tableCount refl t h;
@@ -145,11 +185,11 @@ period t h =
 
 -- THE FLAGS OF CO: field 27, and fields 31 to 38 one behind the other
 pub flags-stand : (k : ℕ) → k < 8 → (isFlagRow (rowOf CO (31 + k)) ≡ true) × (rowOf CO (31 + k) .start ≡ 120 + k)
-unfolding least rowOf rowWith tableAt tables co
+unfolding least rowOf rowWith tableAt tables
 flags-stand k h = (computed (λ j. isFlagRow (rowOf CO (31 + j))) 8 refl k h, eqb-true _ _ (computed (λ j. eqb (rowOf CO (31 + j) .start) (120 + j)) 8 refl k h))
 
 pub no-flag-before : (f : ℕ) → f < 31 → (f ≡ 27 → ⊥) → isFlagRow (rowOf CO f) ≡ false
-unfolding least rowOf rowWith tableAt tables co
+unfolding least rowOf rowWith tableAt tables
 no-flag-before f h n = not-true _ (rw (ne-eqb f 27 n) at (computed (λ g. eqb g 27 || not (isFlagRow (rowOf CO g))) 31 refl f h))
 
 none-beyond : (f : ℕ) → 38 < f → (rs : List Row) → every (λ (r : Row). not (isFlagRow r) || leb (r .field) 38) rs ≡ true
@@ -167,7 +207,7 @@ none-beyond f h (r ∷ rs) e =
     go false q g p k ih = ih
 
 pub no-flag-behind : (f : ℕ) → 38 < f → isFlagRow (rowOf CO f) ≡ false
-unfolding rowOf every tableAt tables co
+unfolding rowOf every tableAt tables
 no-flag-behind f h = none-beyond f h (tableAt CO .rows) refl
 
 -- THE ROWS OF A TABLE IN THE LAYOUT stand behind those of the tables before it,
@@ -191,15 +231,15 @@ in-turn u (suc t) (b ∷ bs) =
     rw (← length-map (b .rows) (numbers u)) (drop-append-add (map (numbers u) (b .rows)) (layoutFrom (u + 1) bs) n) in
     rw (e, m, d, ← q) (in-turn (u + 1) t bs)
 
-pub all-before : (t : ℕ) → tableCount ≤ t → firstRow t ≡ 57
-unfolding firstRow sum tables co re ar me
+pub all-before : (t : ℕ) → tableCount ≤ t → firstRow t ≡ rowCount
+unfolding firstRow sum tables
 all-before t h = rw (take-all t tables h)
 
-pub in-layout : (t : ℕ) → t < tableCount → (firstRow t ≤ firstRow (t + 1)) × (firstRow (t + 1) ≤ 57)
-unfolding least firstRow sum tables co re ar me
+pub in-layout : (t : ℕ) → t < tableCount → (firstRow t ≤ firstRow (t + 1)) × (firstRow (t + 1) ≤ rowCount)
+unfolding least firstRow sum tables
 in-layout t h = (
   leb-true _ _ (computed (λ u. leb (firstRow u) (firstRow (u + 1))) tableCount refl t h),
-  leb-true _ _ (computed (λ u. leb (firstRow (u + 1)) 57) tableCount refl t h),
+  leb-true _ _ (computed (λ u. leb (firstRow (u + 1)) rowCount) tableCount refl t h),
 )
 
 -- so the walk over them finds the first field that breaks its rule.
@@ -233,7 +273,7 @@ abbrev numbered : List Row → Bool
 numbered rs = every (λ (r : Row). ltb 0 (r .field)) rs
 
 fields-numbered : (t : ℕ) → numbered (tableAt t .rows) ≡ true
-unfolding least every tableAt tables co re ar me
+unfolding least every tableAt tables
 fields-numbered t = ⊎-elim (computed (λ u. numbered (tableAt u .rows)) tableCount refl t) (λ h. rw (no-table t h)) (side t tableCount)
 
 unbroken : (body : List ℕ) (rs : List Row) → numbered rs ≡ true → eqb (firstBroken rs body) 0 ≡ every (λ r. obeysRow r body) rs
@@ -249,3 +289,27 @@ unbroken body (r ∷ rs) n = let d = both-true (ltb 0 (r .field)) (numbered rs) 
 pub unbroken-keeps : (t : ℕ) (body : List ℕ) → eqb (brokenField t body) 0 ≡ keepsRules t body
 unfolding brokenField keepsRules
 unbroken-keeps t body = unbroken body (tableAt t .rows) (fields-numbered t)
+
+-- so its offer, its railway and its code are such numbers.
+module _ (t : ℕ) (o : ofOffers t ≡ true) (body : List ℕ) (k : keepsRules t body ≡ true) where
+  pub offer-kept : isWithin 1 99999 (numberOf (offerOf body)) ≡ true
+  unfolding offerOf bytesOf obeysRow ruled rowOf rowWith tableAt tables
+  offer-kept = rw (offer-row t o .0) at (keeps-field t 2 body k (offer-row t o .1))
+
+  pub railway-kept : isCompany (railwayOf body) ≡ true
+  unfolding railwayOf bytesOf obeysRow ruled rowOf rowWith tableAt tables
+  railway-kept = rw (railway-row t o .0) at (keeps-field t 3 body k (railway-row t o .1))
+
+codes : (t : ℕ) → (tableAt t .code ≡ 0 → ⊥) → (rowOf t (tableAt t .code) .kind ≡ NUMBER) × (has (tableAt t .code) t ≡ true)
+unfolding least any rowOf rowWith tableAt tables
+codes t n =
+    let h : t < tableCount = ⊎-elim (λ h. h) (λ h. absurd (n (rw (no-table t h)))) (side t tableCount) in
+    let c : not (eqb (tableAt t .code) 0) ≡ true = rw (ne-eqb (tableAt t .code) 0 n) in (
+      eqb-true _ _ (if-so (not (eqb (tableAt t .code) 0)) c (computed (λ u. not (not (eqb (tableAt u .code) 0)) || eqb (rowOf u (tableAt u .code) .kind) NUMBER) tableCount refl t h)),
+      if-so (not (eqb (tableAt t .code) 0)) c (computed (λ u. not (not (eqb (tableAt u .code) 0)) || has (tableAt u .code) u) tableCount refl t h),
+    )
+
+pub code-kept : (t : ℕ) → (tableAt t .code ≡ 0 → ⊥) → (body : List ℕ) → keepsRules t body ≡ true
+    → isWithin (rowOf t (tableAt t .code) .least) (rowOf t (tableAt t .code) .most) (numberOf (bytesOf t (tableAt t .code) body)) ≡ true
+unfolding obeysRow ruled bytesOf
+code-kept t n body k = rw (codes t n .0) at (keeps-field t (tableAt t .code) body k (codes t n .1))

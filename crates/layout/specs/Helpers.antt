@@ -1,20 +1,34 @@
 -- What the code's helpers answer. Nothing here has to be believed: no promise and no answer of a call is stated with it.
 -- Assumes nothing.
-use Prim.Native.Nat.{ℕ, _+_}
-use mathlib.Core.List.{List, [], _∷_, map}
+use Prim.Native.Nat.{ℕ}
+use mathlib.Core.Bool.{cond}
+use mathlib.Core.List.{List, map}
+use lib.Dec.{eqb}
 use lib.ListN.{length, getD, take}
 use Rattle.common.specs.Lists.{sum}
 use Rattle.layout.specs.Layout.{Table, tables, tableAt}
 use Rattle.layout.specs.Fields.{rowOf}
 use Rattle.layout.specs.declared.rows.Row.{Row}
+use Rattle.layout.specs.declared.fields.Span.{Span}
 
 -- a row of the code's table, its parts by name
 abbrev pub asRow : List ℕ → Row
 asRow e = record { field = getD e 1 0; start = getD e 2 0; length = getD e 3 0; kind = getD e 4 0; least = getD e 5 0; most = getD e 6 0 }
 
+-- how many rows the layout has
+abbrev pub rowCount : ℕ
+rowCount = 57
+
 -- where the rows of a table start in the layout: behind those of the tables before it
 unfoldable pub firstRow : ℕ → ℕ
 firstRow t = sum (map (λ (b : Table). length (b .rows)) (take t tables))
+
+-- where a table's code stands and how many bytes it has, none where it has no code
+abbrev pub noSpan : Span
+noSpan = (0, 0)
+
+unfoldable pub codeSpan : ℕ → Span
+codeSpan t = cond (eqb (tableAt t .code) 0) noSpan (rowOf t (tableAt t .code) .start, rowOf t (tableAt t .code) .length)
 
 -- how many bytes the fields of a table's key have together
 unfoldable pub keyLength : ℕ → ℕ

@@ -85,7 +85,7 @@ pub record Table : Type 0 where
 abbrev pub noTable : Table
 noTable = record { mark = []; key = []; code = 0; rows = [] }
 
-unfoldable pub co : Table
+abbrev pub co : Table
 co = record {
   mark = byte-C ∷ byte-O ∷ [];
   key = 2 ∷ 3 ∷ [];
@@ -116,7 +116,7 @@ co = record {
       [];
 }
 
-unfoldable pub re : Table
+abbrev pub re : Table
 re = record {
   mark = byte-R ∷ byte-E ∷ [];
   key = 2 ∷ [];
@@ -136,7 +136,7 @@ re = record {
       [];
 }
 
-unfoldable pub ar : Table
+abbrev pub ar : Table
 ar = record {
   mark = byte-A ∷ byte-R ∷ [];
   key = 2 ∷ 3 ∷ 4 ∷ [];
@@ -158,7 +158,7 @@ ar = record {
       [];
 }
 
-unfoldable pub me : Table
+abbrev pub me : Table
 me = record {
   mark = byte-M ∷ byte-E ∷ [];
   key = 2 ∷ 3 ∷ [];

@@ -3,7 +3,7 @@ ghost use mathlib.Core.Path.{_≡_};
 ghost use Rattle.common.specs.Digits.{numberOf, valueOf};
 ghost use Rattle.layout.specs.Layout.{CO as inCO, AR as inAR};
 ghost use Rattle.layout.specs.Fields.{fieldAt, numberIn, isYes, transferorOf, offerOf, railwayOf, codeOf, codeFits, sameKey, holdsDay, grantIn};
-ghost use Rattle.layout.specs.Helpers.{keyLength};
+ghost use Rattle.layout.specs.Helpers.{codeSpan, keyLength};
 use super::AR;
 use super::CO;
 use super::ME;
@@ -48,26 +48,38 @@ pub fn railway(body: &[u8]) -> &[u8]
     field(body, 10, 4)
 }
 
-// The code of an RE or an AR, nothing for a table that has none.
+// Where a table's code stands and how many bytes it has, none for a table that has no code.
+struct Span(usize, usize);
+
+fn code_span(table: u32) -> Span
+    ensures { λ r. ⌜ r ≡ codeSpan table ⌝ }
+{
+    match table {
+        CO => Span(0, 0),
+        RE => Span(5, 3),
+        AR => Span(14, 3),
+        ME => Span(0, 0),
+        _ => Span(0, 0),
+    }
+}
+
+// The code of a record, nothing where its table has none.
 pub fn code(table: u32, body: &[u8]) -> &[u8]
     ensures { λ r. ⌜ now r ≡ codeOf table (now (body .entry)) ⌝ }
 {
-    match table {
-        RE => field(body, 5, 3),
-        AR => field(body, 14, 3),
-        _ => field(body, 0, 0),
-    }
+    let span = code_span(table);
+    field(body, span.0, span.1)
 }
 
 // Whether a record has a code, if its table has one.
 pub fn code_fits(table: u32, code: u32, body: &[u8]) -> bool
     ensures { λ r. ⌜ r ≡ codeFits table code (now (body .entry)) ⌝ }
 {
-    match table {
-        RE => number_at(body, 5, 3) == code,
-        AR => number_at(body, 14, 3) == code,
-        _ => true,
+    let span = code_span(table);
+    if span.1 == 0 {
+        return true;
     }
+    number_at(body, span.0, span.1) == code
 }
 
 // How many bytes a table's key has, 0 for no table. A `match`, as `length_of`: every pair asks for it.

@@ -28,7 +28,10 @@ use super::rules::ROUNDING;
 use super::rules::TEXT;
 use super::rules::TRANSFEROR;
 
-const LAYOUT: [[u32; 7]; 57] = [
+// How many rows there are.
+const ROWS: usize = 57;
+
+const LAYOUT: [[u32; 7]; ROWS] = [
     [CO, 1, 1, 4, TRANSFEROR, 0, 0],
     [CO, 2, 5, 5, NUMBER, 1, 99999],
     [CO, 3, 10, 4, RAILWAY, 0, 0],
@@ -99,7 +102,7 @@ pub struct Row {
 }
 
 // The table of rows. It is built where it is named, so a pass asks for it once and lends it on.
-pub fn all() -> [[u32; 7]; 57]
+pub fn all() -> [[u32; 7]; ROWS]
     ensures { λ r. ⌜ r ≡ layout ⌝ }
 {
     LAYOUT
@@ -114,17 +117,17 @@ fn first_row(table: u32) -> usize
         RE => 22,
         AR => 33,
         ME => 46,
-        _ => 57,
+        _ => ROWS,
     }
 }
 
 // The rows of a table among all.
-pub fn of_table(rows: &[[u32; 7]; 57], table: u32) -> &[[u32; 7]]
+pub fn of_table(rows: &[[u32; 7]; ROWS], table: u32) -> &[[u32; 7]]
     ensures { λ r. ⌜ now r ≡ take (firstRow (table + 1) - firstRow table) (drop (firstRow table) (now (rows .entry))) ⌝ }
 {
     let every = &rows[..];
     if super::TABLES <= table {
-        return &every[57..57];
+        return &every[ROWS..ROWS];
     }
     let first = first_row(table);
     let end = first_row(table + 1);
@@ -160,13 +163,13 @@ pub fn broken_field(rows: &[[u32; 7]], body: &[u8]) -> usize
 }
 
 // The row of a field among some rows, all zeros where there is none.
-pub fn of_field(rows: &[[u32; 7]], field: u32) -> Row
+pub fn of_field(rows: &[[u32; 7]], field: usize) -> Row
     ensures { λ r. ⌜ r ≡ rowWith (λ (row : SpecRow). eqb (row .field) field) (map asRow (now (rows .entry))) ⌝ }
 {
     let mut k = 0;
     while k < rows.len() {
         let row = named(rows[k]);
-        if row.field == field {
+        if row.field as usize == field {
             return row;
         }
         k += 1;

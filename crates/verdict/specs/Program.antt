@@ -5,6 +5,7 @@ use mathlib.Core.Bool.{cond}
 use mathlib.Core.List.{List}
 use lib.Dec.{ltb}
 use lib.ListN.{length}
+use Rattle.common.specs.Checks.{refuse}
 use Rattle.bundle.specs.Verdict.{verdictOf}
 use Rattle.bundle.specs.declared.Judgement.{Judgement}
 use Rattle.bundle.specs.declared.Judgement.the-variants.{Refused}
@@ -15,4 +16,4 @@ programLimit = 65536
 
 -- "More input, by this program's own limit: NO 1 0 0"; any other input is judged as a bundle
 unfoldable pub programVerdict : List ℕ → Judgement
-programVerdict input = cond (ltb programLimit (length input)) (Refused 1 0 0) (verdictOf input)
+programVerdict input = cond (ltb programLimit (length input)) (Refused (refuse 1 0 0)) (verdictOf input)

@@ -10,7 +10,7 @@ fn judge(input: &[u8]) -> Judgement
     ensures { λ r. ⌜ r ≡ programVerdict (now (input .entry)) ⌝ }
 {
     if LIMIT < input.len() {
-        return Judgement::Refused(1, 0, 0);
+        return Judgement::Refused(common::refuse(1, 0, 0));
     }
     offers::verdict(input)
 }
@@ -26,11 +26,11 @@ fn write_line(verdict: Judgement) {
             io::write_all(1, b"OK");
             write_number(records as u64);
         }
-        Judgement::Refused(number, place, detail) => {
+        Judgement::Refused(why) => {
             io::write_all(1, b"NO");
-            write_number(number as u64);
-            write_number(place as u64);
-            write_number(detail as u64);
+            write_number(why.number as u64);
+            write_number(why.place as u64);
+            write_number(why.detail as u64);
         }
     }
     io::write_all(1, b"\n");

@@ -2,7 +2,7 @@
 -- where the first before it that is for all railways stands.
 -- Assumes nothing.
 use Prim.Native.Nat.{ℕ, _+_, _-_}
-use mathlib.Core.Path.{_≡_, sym, _∙_, ap}
+use mathlib.Core.Path.{_≡_, _∙_, ap}
 use mathlib.Core.List.{List}
 use native.Mathlib.Omega.{arith}
 use lib.ListN.{length}
@@ -70,6 +70,8 @@ loop-again c =
 
 pub choose-spec : {M : Type 1} → statement M
 choose-spec =
-    tie.close (tie.spec Inv-loop μ-loop (λ c. (0, here-start _, none-yet _, standing-start _ _)) (λ c κs. search needs) (λ c. search needs) (λ c κs. search needs)
-    returns (λ c. found c .ends) (λ c. omega (arith, found c .ends, found c .inside)) (λ c. found c .inside) (λ c κs. search needs) (λ c κs. search needs) returns-2
-    (λ c κs. search needs) (λ c. let w = found (c .before .before .before .before) in omega (arith, w .starts, w .ends, w .inside)) loop-again)
+    tie.close (tie.spec
+    Inv-loop μ-loop (λ c. (0, here-start _, none-yet _, standing-start _ _)) (λ c κs. search needs) (λ c. search needs) (λ c κs. search needs)
+    returns (λ c. found c .ends) (λ c. omega (arith, found c .ends, found c .inside)) (λ c. found c .inside) (λ c κs. search needs)
+    (λ c κs. search needs) returns-2 (λ c κs. search needs)
+    (λ c. let w = found (c .before .before .before .before) in omega (arith, w .starts, w .ends, w .inside)) loop-again)

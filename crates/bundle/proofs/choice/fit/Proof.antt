@@ -8,9 +8,6 @@ use Rattle.bundle.proofs.ChoiceLaws.{by-table, by-offer, by-code, by-ow
 use Rattle.bundle.proofs.choice.fit.Statement.{statement}
 use Rattle.bundle.proofs.choice.fit.Tie as tie
 
-returns-2 : tie.Need-returns-2
-returns-2 c = let o = c .before .before in by-offer _ _ (o .before .if1 .left) (o .offer-number .ensures) (c .if2 .taken)
-
 returns-3 : tie.Need-returns-3
 returns-3 c =
     let k = c .before in
@@ -42,5 +39,7 @@ returns-6 c =
 
 pub fit-spec : {M : Type 1} → statement M
 fit-spec =
-    tie.close (tie.spec (λ c. by-table _ _ (c .if1 .taken)) (λ c κs. search needs) returns-2 (λ c κs. search needs) returns-3 (λ c κs. search needs)
-    (λ c κs. search needs) returns-4 (λ c κs. search needs) returns-5 returns-6)
+    tie.close (tie.spec
+    (λ c. by-table _ _ (c .if1 .taken)) (λ c κs. search needs)
+    (λ c. let o = c .before .before in by-offer _ _ (o .before .if1 .left) (o .offer-number .ensures) (c .if2 .taken)) (λ c κs. search needs)
+    returns-3 (λ c κs. search needs) (λ c κs. search needs) returns-4 (λ c κs. search needs) returns-5 returns-6)

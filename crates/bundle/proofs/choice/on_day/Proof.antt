@@ -20,4 +20,5 @@ returns-3 c =
 
 pub on-day-spec : {M : Type 1} → statement M
 unfolding onDayAt
-on-day-spec = tie.close (tie.spec (λ c. rw (le-leb _ _ (c .if1 .taken))) (λ c κs. search needs) (λ c κs. search needs) returns-2 returns-3)
+on-day-spec =
+    tie.close (tie.spec (λ c. rw (le-leb _ _ (c .if1 .taken))) (λ c κs. search needs) (λ c κs. search needs) returns-2 returns-3)

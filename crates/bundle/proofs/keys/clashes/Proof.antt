@@ -9,4 +9,5 @@ use Rattle.bundle.proofs.keys.clashes.Tie as tie
 pub clashes-spec : {M : Type 1} → statement M
 unfolding clash
 clashes-spec =
-    tie.close (tie.spec (λ c. rw (ne-eqb _ _ (c .if1 .taken))) (λ c κs. search needs) (λ c. rw (eq-eqb _ _ (c .before .if1 .left), c .same-key .ensures)))
+    tie.close (tie.spec
+    (λ c. rw (ne-eqb _ _ (c .if1 .taken))) (λ c κs. search needs) (λ c. rw (eq-eqb _ _ (c .before .if1 .left), c .same-key .ensures)))

@@ -9,4 +9,5 @@ use Rattle.bundle.proofs.keys.first_transferor.Tie as tie
 
 pub first-transferor-spec : {M : Type 1} → statement M
 first-transferor-spec =
-    tie.close (tie.spec (λ c κs. search needs) (λ c κs. search needs) (λ c. c .transferor .ensures ∙ ap transferorOf (c .before .body-at .ensures ∙ first-body _)))
+    tie.close (tie.spec
+    (λ c κs. search needs) (λ c κs. search needs) (λ c. c .transferor .ensures ∙ ap transferorOf (c .before .body-at .ensures ∙ first-body _)))

@@ -32,5 +32,6 @@ returns-4 c =
 
 pub are-joined-spec : {M : Type 1} → statement M
 are-joined-spec =
-    tie.close (tie.spec (λ c κs. search needs) (λ c κs. search needs) (λ c κs. search needs) returns (λ c κs. search needs) (λ c κs. search needs)
-    (λ c κs. search needs) returns-2 returns-3 (λ c κs. search needs) returns-4)
+    tie.close (tie.spec
+    (λ c κs. search needs) (λ c κs. search needs) (λ c κs. search needs) returns (λ c κs. search needs) (λ c κs. search needs) (λ c κs. search needs)
+    returns-2 returns-3 (λ c κs. search needs) returns-4)

@@ -46,11 +46,11 @@ returns c =
     let i = f .before .loop .inv in
     sym (i .2 ∙ rw (over-nil _ _ _ (i .1) (over-there _ _ (f .step-at .result) (c .match .keys2) (f .step-at .ensures))))
 
-loop-again : tie.Need-loop-again Inv-loop μ-loop
-loop-again c = let k = c .before .before .before in (place k .loop .inv .0 + 1, found k .then, turn (c .before) ∙ rw (c .if1 .left))
-
 pub is-served-spec : {M : Type 1} → statement M
 is-served-spec =
-    tie.close (tie.spec Inv-loop μ-loop (λ c. (0, here-start _, refl)) (λ c κs. search needs) (λ c. search needs) returns
-    (λ c. found c .ends) (λ c. omega (arith, found c .ends, found c .inside)) (λ c. found c .inside) (λ c κs. search needs)
-    (λ c. sym (turn (c .before) ∙ rw (c .if1 .taken))) (λ c. let w = found (c .before .before .before) in omega (arith, w .starts, w .ends, w .inside)) loop-again)
+    tie.close (tie.spec
+    Inv-loop μ-loop (λ c. (0, here-start _, refl)) (λ c κs. search needs) (λ c. search needs) returns (λ c. found c .ends)
+    (λ c. omega (arith, found c .ends, found c .inside)) (λ c. found c .inside) (λ c κs. search needs)
+    (λ c. sym (turn (c .before) ∙ rw (c .if1 .taken)))
+    (λ c. let w = found (c .before .before .before) in omega (arith, w .starts, w .ends, w .inside))
+    (λ c. let k = c .before .before .before in (place k .loop .inv .0 + 1, found k .then, turn (c .before) ∙ rw (c .if1 .left))))

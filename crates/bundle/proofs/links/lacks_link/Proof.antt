@@ -16,4 +16,5 @@ returns-2 c =
     rw (← a .before .link-at .ensures, ← a .asked .ensures, not-false (a .asked .result) (c .before .if1 .left), c .is-served .ensures)
 
 pub lacks-link-spec : {M : Type 1} → statement M
-lacks-link-spec = tie.close (tie.spec (λ c κs. search needs) (λ c κs. search needs) returns (λ c κs. search needs) returns-2)
+lacks-link-spec =
+    tie.close (tie.spec (λ c κs. search needs) (λ c κs. search needs) returns (λ c κs. search needs) returns-2)

@@ -20,13 +20,9 @@ as-said [] k = refl
 as-said (l ∷ ls) zero = refl
 as-said (l ∷ ls) (suc k) = as-said ls k
 
-returns : tie.Need-returns
-unfolding linkRows
-returns c = c .named .ensures ∙ sym (List·getD-eq-default linkRows noLink {n = c .before .before .args .k} (omega arith))
-
-returns-2 : tie.Need-returns-2
-unfolding linkRows
-returns-2 c = c .named2 .ensures ∙ as-said linkRows (c .before .before .before .args .k)
-
 pub link-at-spec : {M : Type 1} → statement M
-link-at-spec = tie.close (tie.spec (λ c κs. search needs) returns (λ c. search needs) (λ c. search needs) (λ c κs. search needs) returns-2)
+unfolding linkRows
+link-at-spec =
+    tie.close (tie.spec
+    (λ c κs. search needs) (λ c. c .named .ensures ∙ sym (List·getD-eq-default linkRows noLink {n = c .before .before .args .k} (omega arith)))
+    (λ c. search needs) (λ c. search needs) (λ c κs. search needs) (λ c. c .named2 .ensures ∙ as-said linkRows (c .before .before .before .args .k)))

@@ -17,23 +17,11 @@ Inv-loop bundle table r k₀ k = (k ≤ links) × (least (lacks (recordsOf bundl
 abbrev μ-loop : tie.MeasureT-loop
 μ-loop bundle table r k₀ k = links - k
 
-loop-holds : tie.Need-loop-holds Inv-loop μ-loop
-loop-holds c = (omega arith, start _)
-
-lacks-link-requires : tie.Need-lacks-link-requires Inv-loop μ-loop
-lacks-link-requires c κs = search needs
-
 returns : tie.Need-returns Inv-loop μ-loop
 unfolding missingLink
 returns c =
     let l = c .before .before .before in
     sym (hit _ _ links (l .loop .inv .1) (sym (c .before .lacks-link .ensures) ∙ c .if1 .taken) (c .before .before .loop-test .taken))
-
-add-k : tie.Need-add-k Inv-loop μ-loop
-add-k c = omega arith
-
-loop-less : tie.Need-loop-less Inv-loop μ-loop
-loop-less c = omega arith
 
 loop-again : tie.Need-loop-again Inv-loop μ-loop
 loop-again c =
@@ -49,14 +37,5 @@ returns-2 c =
 
 pub missing-link-spec : {M : Type 1} → statement M
 missing-link-spec =
-    tie.close
-    (tie.spec
-    Inv-loop
-    μ-loop
-    loop-holds
-    lacks-link-requires
-    returns
-    add-k
-    loop-less
-    loop-again
-    returns-2)
+    tie.close (tie.spec
+    Inv-loop μ-loop (λ c. (omega arith, start _)) (λ c κs. search needs) returns (λ c. omega arith) (λ c. omega arith) loop-again returns-2)

@@ -77,9 +77,10 @@ returns-4 c =
 
 pub first-pass-spec : {M : Type 1} → statement M
 first-pass-spec =
-    tie.close (tie.spec Inv-loop μ-loop (λ c κs. search needs) (λ c. (here-start _, first-start _)) (λ c κs. search needs) (λ c. search needs) (λ c κs. search needs) returns
-    (λ c. search needs) (λ c κs. search needs) returns-2 (λ c. search needs) (λ c κs. search needs)
-    (λ c. found (c .before .before) .ends) (λ c. let w = found (c .before .before) in omega (arith, w .ends, w .inside)) (λ c. found (c .before .before) .inside)
-    (λ c κs. search needs) (λ c κs. search needs) returns-3
+    tie.close (tie.spec
+    Inv-loop μ-loop (λ c κs. search needs) (λ c. (here-start _, first-start _)) (λ c κs. search needs) (λ c. search needs) (λ c κs. search needs)
+    returns (λ c. search needs) (λ c κs. search needs) returns-2 (λ c. search needs) (λ c κs. search needs) (λ c. found (c .before .before) .ends)
+    (λ c. let w = found (c .before .before) in omega (arith, w .ends, w .inside)) (λ c. found (c .before .before) .inside) (λ c κs. search needs)
+    (λ c κs. search needs) returns-3
     (λ c. let k = c .before .before .before .before .before in omega (arith, found k .starts, found k .ends, found k .inside, place k .loop .inv .0 .counted))
     (λ c. let w = found (c .before .before .before .before .before) in omega (arith, w .starts, w .ends, w .inside)) loop-again returns-4)

@@ -1,7 +1,7 @@
 -- `bundle::passes::second_pass` meets its contract. The outer loop stands at record i, and the pass finds what it finds from there on; the inner loop
 -- stands at record j, and record i clashes with none before it.
 -- Assumes nothing.
-use Prim.Native.Nat.{ℕ, _+_, _-_, _≤_}
+use Prim.Native.Nat.{ℕ, _-_, _≤_}
 use mathlib.Core.Path.{_≡_, sym, _∙_}
 use mathlib.Core.Bool.{not}
 use mathlib.Core.List.{List}
@@ -155,11 +155,13 @@ returns-5 c =
 
 pub second-pass-spec : {M : Type 1} → statement M
 second-pass-spec =
-    tie.close (tie.spec Inv-loop μ-loop Inv-records μ-records (λ c κs. search needs) (λ c. (here-start _, second-start _)) (λ c κs. search needs) (λ c. search needs)
-    (λ c. found c .ends) (λ c. omega (arith, found c .ends, found c .inside)) (λ c. found c .inside)
-    (λ c κs. search needs) (λ c κs. search needs) (λ c κs. search needs) (λ c. (here-start _, omega arith, none-yet _)) (λ c κs. search needs) (λ c. search needs)
-    (λ c. found-2 c .ends) (λ c. omega (arith, found-2 c .ends, found-2 c .inside)) (λ c. found-2 c .inside) (λ c κs. search needs) (λ c κs. search needs)
+    tie.close (tie.spec
+    Inv-loop μ-loop Inv-records μ-records (λ c κs. search needs) (λ c. (here-start _, second-start _)) (λ c κs. search needs) (λ c. search needs)
+    (λ c. found c .ends) (λ c. omega (arith, found c .ends, found c .inside)) (λ c. found c .inside) (λ c κs. search needs) (λ c κs. search needs)
+    (λ c κs. search needs) (λ c. (here-start _, omega arith, none-yet _)) (λ c κs. search needs) (λ c. search needs) (λ c. found-2 c .ends)
+    (λ c. omega (arith, found-2 c .ends, found-2 c .inside)) (λ c. found-2 c .inside) (λ c κs. search needs) (λ c κs. search needs)
     (λ c. let k = c .before .before .before in omega (arith, found-2 k .starts, found-2 k .ends, found-2 k .inside, inner k .loop .inv .0 .counted))
     (λ c. omega arith) loop-again (λ c κs. search needs) (λ c κs. search needs) (λ c κs. search needs)
     (λ c. let k = record-of (c .before .before .before) in omega (arith, found k .starts, found k .ends, found k .inside, place k .records .inv .0 .counted))
-    (λ c. let w = found (record-of (c .before .before .before)) in omega (arith, w .starts, w .ends, w .inside)) records-again returns returns-2 returns-3 returns-4 returns-5)
+    (λ c. let w = found (record-of (c .before .before .before)) in omega (arith, w .starts, w .ends, w .inside)) records-again returns returns-2
+    returns-3 returns-4 returns-5)

@@ -21,5 +21,6 @@ lies c = step-lies _ _ (c .before .before .before .step-at .ensures) (c .before 
 
 pub body-at-spec : {M : Type 1} → statement M
 body-at-spec =
-    tie.close (tie.spec (λ c κs. search needs) (λ c. search needs) (λ c κs. search needs) returns (λ c. lies c .0) (λ c. omega (arith, lies c)) (λ c. lies c .1)
+    tie.close (tie.spec
+    (λ c κs. search needs) (λ c. search needs) (λ c κs. search needs) returns (λ c. lies c .0) (λ c. omega (arith, lies c)) (λ c. lies c .1)
     (λ c. step-body _ _ (c .before .before .before .before .step-at .ensures) (c .before .before .here .given .1)))

@@ -1,6 +1,6 @@
 -- `bundle::walk::is_mark` meets its contract: two bytes are compared as one number.
 -- Assumes nothing.
-use Prim.Native.Nat.{_+_, _≤_}
+use Prim.Native.Nat.{_≤_}
 use mathlib.Core.Path.{_≡_, sym}
 use native.Mathlib.Nat.{add-zero}
 use native.Mathlib.Omega.{arith}
@@ -10,12 +10,6 @@ use borrow.Author.Needs.{needs}
 use Rattle.bundle.proofs.Steps.{mark-number, mark-short}
 use Rattle.bundle.proofs.walk.is_mark.Statement.{statement}
 use Rattle.bundle.proofs.walk.is_mark.Tie as tie
-
-returns : tie.Need-returns
-returns c = let a = c .before .before .args in sym (mark-short _ _ _ (rw length-drop (omega arith)))
-
-returns-2 : tie.Need-returns-2
-returns-2 c = let a = c .before .before .before .args in sym (mark-short _ _ _ (rw length-drop (omega arith)))
 
 returns-3 : tie.Need-returns-3
 returns-3 c =
@@ -32,5 +26,7 @@ returns-3 c =
 
 pub is-mark-spec : {M : Type 1} → statement M
 is-mark-spec =
-    tie.close (tie.spec returns returns-2 (λ c. search needs) (λ c. search needs) (λ c. search needs) (λ c κs. search needs) (λ c. search needs)
-    (λ c. search needs) (λ c κs. search needs) returns-3)
+    tie.close (tie.spec
+    (λ c. let a = c .before .before .args in sym (mark-short _ _ _ (rw length-drop (omega arith))))
+    (λ c. let a = c .before .before .before .args in sym (mark-short _ _ _ (rw length-drop (omega arith)))) (λ c. search needs) (λ c. search needs)
+    (λ c. search needs) (λ c κs. search needs) (λ c. search needs) (λ c. search needs) (λ c κs. search needs) returns-3)

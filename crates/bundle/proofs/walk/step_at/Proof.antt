@@ -8,9 +8,6 @@ use Rattle.bundle.proofs.Steps.{known-long, step-unknown, step-short, s
 use Rattle.bundle.proofs.walk.step_at.Statement.{statement}
 use Rattle.bundle.proofs.walk.step_at.Tie as tie
 
-returns : tie.Need-returns
-returns c = step-unknown _ _ (c .before .table-at .ensures) (c .if1 .taken)
-
 -- the mark stands in the bundle
 fits : (c : tie.Else1) → let a = c .before .before .before .args in a .at + 2 ≤ length (a .bundle .now)
 fits c =
@@ -29,5 +26,6 @@ returns-3 c =
 
 pub step-at-spec : {M : Type 1} → statement M
 step-at-spec =
-    tie.close (tie.spec (λ c κs. search needs) returns (λ c. omega (arith, fits c)) (λ c κs. search needs) (λ c. fits (c .before)) returns-2
-    (λ c. omega (arith, fits (c .before .before))) returns-3)
+    tie.close (tie.spec
+    (λ c κs. search needs) (λ c. step-unknown _ _ (c .before .table-at .ensures) (c .if1 .taken)) (λ c. omega (arith, fits c)) (λ c κs. search needs)
+    (λ c. fits (c .before)) returns-2 (λ c. omega (arith, fits (c .before .before))) returns-3)

@@ -10,7 +10,7 @@ use borrow.Author.Needs.{needs}
 use Rattle.common.specs.Least.{least}
 use Rattle.common.specs.Lists.{same}
 use Rattle.common.proofs.Least.{start, more, hit}
-use Rattle.layout.specs.Layout.{tableCount, tables, tableAt, co, re, ar, me}
+use Rattle.layout.specs.Layout.{tableCount, tables, tableAt}
 use Rattle.bundle.specs.Records.{tableOf}
 use Rattle.bundle.specs.Helpers.{isMark}
 use Rattle.bundle.proofs.walk.table_at.Statement.{statement}
@@ -24,22 +24,22 @@ abbrev None : tie.Start → ℕ → Type 0
 None c n = least (marked (c .args .bundle .now) (c .args .at)) n ≡ n
 
 none-1 : (c : tie.Else1) → None (c .before .before .before .before) 1
-unfolding isMark tableAt tables co
+unfolding isMark tableAt tables
 none-1 c = more _ 0 (start _) (sym (c .before .is-mark .ensures) ∙ c .if1 .left)
 
 none-2 : (c : tie.Else2) → None (c .before .before .before .before .before .before .before) 2
-unfolding isMark tableAt tables re
+unfolding isMark tableAt tables
 none-2 c = more _ 1 (none-1 (c .before .before .before)) (sym (c .before .is-mark2 .ensures) ∙ c .if2 .left)
 
 none-3 : (c : tie.Else3) → None (c .before .before .before .before .before .before .before .before .before .before) 3
-unfolding isMark tableAt tables ar
+unfolding isMark tableAt tables
 none-3 c = more _ 2 (none-2 (c .before .before .before)) (sym (c .before .is-mark3 .ensures) ∙ c .if3 .left)
 
 pub table-at-spec : {M : Type 1} → statement M
-unfolding tableOf isMark tableAt tables co re ar me
+unfolding tableOf isMark tableAt tables
 table-at-spec =
-    tie.close (tie.spec (λ c κs. search needs)
-    (λ c. sym (hit _ 0 tableCount (start _) (sym (c .before .is-mark .ensures) ∙ c .if1 .taken) (omega arith)))
+    tie.close (tie.spec
+    (λ c κs. search needs) (λ c. sym (hit _ 0 tableCount (start _) (sym (c .before .is-mark .ensures) ∙ c .if1 .taken) (omega arith)))
     (λ c κs. search needs)
     (λ c. sym (hit _ 1 tableCount (none-1 (c .before .before .before)) (sym (c .before .is-mark2 .ensures) ∙ c .if2 .taken) (omega arith)))
     (λ c κs. search needs)

@@ -5,14 +5,8 @@ use borrow.Author.Tests.{eq-eqb, ne-eqb}
 use Rattle.layout.proofs.dates.is_leap_year.Statement.{statement}
 use Rattle.layout.proofs.dates.is_leap_year.Tie as tie
 
-returns : tie.Need-returns
-returns c = simp (eq-eqb _ _ (c .if1 .taken))
-
-returns-2 : tie.Need-returns-2
-returns-2 c = simp (ne-eqb _ _ (c .before .if1 .left), eq-eqb _ _ (c .if2 .taken), and-false)
-
-returns-3 : tie.Need-returns-3
-returns-3 c = simp (ne-eqb _ _ (c .before .if1 .left), ne-eqb _ _ (c .if2 .left), and-true)
-
 pub is-leap-year-spec : {M : Type 1} → statement M
-is-leap-year-spec = tie.close (tie.spec returns returns-2 returns-3)
+is-leap-year-spec =
+    tie.close (tie.spec
+    (λ c. simp (eq-eqb _ _ (c .if1 .taken))) (λ c. simp (ne-eqb _ _ (c .before .if1 .left), eq-eqb _ _ (c .if2 .taken), and-false))
+    (λ c. simp (ne-eqb _ _ (c .before .if1 .left), ne-eqb _ _ (c .if2 .left), and-true)))

@@ -1,16 +1,13 @@
--- `layout::fields::code_fits` meets its contract: antt computes where the code of each table stands.
+-- `layout::fields::code_fits` meets its contract: the code stands where its span says.
 -- Assumes nothing.
+use mathlib.Core.Path.{sym, _∙_, ap}
+use lib.Dec.{eqb}
 use borrow.Author.Needs.{needs}
-use Rattle.layout.specs.Layout.{tables, tableAt, re, ar}
-use Rattle.layout.specs.Fields.{rowWith, rowOf, bytesOf, codeOf, codeFits}
-use Rattle.layout.proofs.Tables.{no-code}
+use Rattle.layout.proofs.Tables.{no-span, a-span}
 use Rattle.layout.proofs.fields.code_fits.Statement.{statement}
 use Rattle.layout.proofs.fields.code_fits.Tie as tie
 
 pub code-fits-spec : {M : Type 1} → statement M
-unfolding codeFits codeOf bytesOf rowOf rowWith tableAt tables re ar
-code-fits-spec =
-    tie.close (tie.spec (λ c κs. search needs) (λ c κs. search needs)
-    (λ c. rw (c .before .match .keys1, c .number-at .ensures))
-    (λ c. rw (c .before .match .keys2, c .number-at2 .ensures))
-    (λ c. rw (no-code _ (λ e. c .match .rest .0 .1 e) (λ e. c .match .rest .1 e))))
+code-fits-spec = tie.close (tie.spec (λ c κs. search needs)
+    (λ c. no-span _ _ _ (ap (λ s. s .1) (sym (c .before .before .code-span .ensures)) ∙ c .if1 .taken)) (λ c κs. search needs)
+    (λ c. let s = c .before .before .before in ap (λ n. eqb n (s .before .before .args .code)) (c .number-at .ensures) ∙ rw (s .code-span .ensures) (a-span _ _ _ (λ e. c .before .if1 .left (ap (λ x. x .1) (s .code-span .ensures) ∙ e)))))

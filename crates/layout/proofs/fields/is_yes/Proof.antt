@@ -4,23 +4,11 @@ use Prim.Native.Nat.{_+_, _-_}
 use mathlib.Core.Path.{_≡_}
 use native.Mathlib.Omega.{arith}
 use borrow.Author.Needs.{needs}
-use Rattle.layout.specs.Layout.{tableAt, tables, co}
+use Rattle.layout.specs.Layout.{tableAt, tables}
 use Rattle.layout.specs.Fields.{rowWith, rowOf, byteOf, isYes}
 use Rattle.layout.proofs.Tables.{flags-stand, no-flag-before, no-flag-behind}
 use Rattle.layout.proofs.fields.is_yes.Statement.{statement}
 use Rattle.layout.proofs.fields.is_yes.Tie as tie
-
-returns : tie.Need-returns
-unfolding isYes byteOf rowOf rowWith tableAt tables co
-returns c = rw (c .before .if1 .taken, c .byte-at .ensures)
-
-returns-2 : tie.Need-returns-2
-unfolding isYes
-returns-2 c = rw (no-flag-before _ (c .if2 .taken) (c .before .if1 .left))
-
-returns-3 : tie.Need-returns-3
-unfolding isYes
-returns-3 c = rw (no-flag-behind _ (c .if3 .taken))
 
 returns-4 : tie.Need-returns-4
 unfolding isYes byteOf
@@ -31,5 +19,8 @@ returns-4 c =
     rw (s .0, s .1, c .byte-at2 .ensures)
 
 pub is-yes-spec : {M : Type 1} → statement M
+unfolding isYes byteOf rowOf rowWith tableAt tables
 is-yes-spec =
-    tie.close (tie.spec (λ c κs. search needs) returns returns-2 returns-3 (λ c. search needs) (λ c. search needs) (λ c κs. search needs) returns-4)
+    tie.close (tie.spec
+    (λ c κs. search needs) (λ c. rw (c .before .if1 .taken, c .byte-at .ensures)) (λ c. rw (no-flag-before _ (c .if2 .taken) (c .before .if1 .left)))
+    (λ c. rw (no-flag-behind _ (c .if3 .taken))) (λ c. search needs) (λ c. search needs) (λ c κs. search needs) returns-4)

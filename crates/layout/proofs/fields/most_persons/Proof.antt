@@ -1,11 +1,11 @@
 -- `layout::fields::most_persons` meets its contract: antt computes where the row stands.
 -- Assumes nothing.
 use borrow.Author.Needs.{needs}
-use Rattle.layout.specs.Layout.{tableAt, tables, co}
+use Rattle.layout.specs.Layout.{tableAt, tables}
 use Rattle.layout.specs.Fields.{rowWith, rowOf, bytesOf, numberIn}
 use Rattle.layout.proofs.fields.most_persons.Statement.{statement}
 use Rattle.layout.proofs.fields.most_persons.Tie as tie
 
 pub most-persons-spec : {M : Type 1} → statement M
-unfolding numberIn bytesOf rowOf rowWith tableAt tables co
+unfolding numberIn bytesOf rowOf rowWith tableAt tables
 most-persons-spec = tie.close (tie.spec (λ c κs. search needs) (λ c. c .number-at .ensures))

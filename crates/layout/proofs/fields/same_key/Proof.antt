@@ -7,5 +7,7 @@ use Rattle.layout.proofs.fields.same_key.Statement.{statement}
 use Rattle.layout.proofs.fields.same_key.Tie as tie
 
 pub same-key-spec : {M : Type 1} → statement M
-same-key-spec = tie.close (tie.spec (λ c κs. search needs) (λ c κs. search needs) (λ c κs. search needs) (λ c κs. search needs)
+same-key-spec =
+    tie.close (tie.spec
+    (λ c κs. search needs) (λ c κs. search needs) (λ c κs. search needs) (λ c κs. search needs)
     (λ c. c .same-bytes .ensures ∙ rw (c .before .field2 .ensures, c .before .before .field .ensures, c .before .before .before .key-length .ensures) (key-at-once _ _ _)))

@@ -30,16 +30,10 @@ turn c =
     let l = i .before in
     l .loop .inv .1 ∙ broken-step _ _ _ _ _ (i .loop-test .taken) (c .before .named .ensures) (c .obeys .ensures)
 
-returns : tie.Need-returns Inv-loop μ-loop
-returns c = let o = c .before .before in sym (turn o ∙ rw (not-true (o .obeys .result) (c .before .if1 .taken)))
-
-loop-again : tie.Need-loop-again Inv-loop μ-loop
-loop-again c = (omega arith, turn (c .before) ∙ rw (not-false (c .before .obeys .result) (c .if1 .left)))
-
-returns-2 : tie.Need-returns-2 Inv-loop μ-loop
-returns-2 c = sym (c .before .loop .inv .1 ∙ broken-end _ _ _ (c .loop-test .left))
-
 pub broken-field-spec : {M : Type 1} → statement M
 broken-field-spec =
-    tie.close (tie.spec Inv-loop μ-loop (λ c. (omega arith, refl)) (λ c. search needs) (λ c. search needs) (λ c κs. search needs) (λ c κs. search needs) (λ c. search needs)
-    returns (λ c. search needs) (λ c. search needs) loop-again returns-2)
+    tie.close (tie.spec
+    Inv-loop μ-loop (λ c. (omega arith, refl)) (λ c. search needs) (λ c. search needs) (λ c κs. search needs) (λ c κs. search needs)
+    (λ c. search needs) (λ c. let o = c .before .before in sym (turn o ∙ rw (not-true (o .obeys .result) (c .before .if1 .taken))))
+    (λ c. search needs) (λ c. search needs) (λ c. (omega arith, turn (c .before) ∙ rw (not-false (c .before .obeys .result) (c .if1 .left))))
+    (λ c. sym (c .before .loop .inv .1 ∙ broken-end _ _ _ (c .loop-test .left))))

@@ -35,10 +35,9 @@ loop-again c =
     let i = n .before .before in
     (omega arith, i .before .loop .inv .1 ∙ with-step _ _ _ (n .named .result) false (i .loop-test .taken) (n .named .ensures) (ne-eqb _ _ (c .if1 .left)))
 
-returns-2 : tie.Need-returns-2 Inv-loop μ-loop
-returns-2 c = c .named2 .ensures ∙ sym (c .before .before .loop .inv .1 ∙ with-end _ _ _ (c .before .loop-test .left))
-
 pub of-field-spec : {M : Type 1} → statement M
 of-field-spec =
-    tie.close (tie.spec Inv-loop μ-loop (λ c. (omega arith, refl)) (λ c. search needs) (λ c. search needs) (λ c κs. search needs) returns
-    (λ c. search needs) (λ c. search needs) loop-again (λ c κs. search needs) returns-2)
+    tie.close (tie.spec
+    Inv-loop μ-loop (λ c. (omega arith, refl)) (λ c. search needs) (λ c. search needs) (λ c κs. search needs) (λ c. search needs) returns (λ c. search needs)
+    (λ c. search needs) loop-again (λ c κs. search needs)
+    (λ c. c .named2 .ensures ∙ sym (c .before .before .loop .inv .1 ∙ with-end _ _ _ (c .before .loop-test .left))))

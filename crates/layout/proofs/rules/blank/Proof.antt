@@ -18,37 +18,11 @@ Inv-loop s i₀ i = (i ≤ length s) × (every isBlank s ≡ every isBlank (drop
 abbrev μ-loop : tie.MeasureT-loop
 μ-loop s i₀ i = length s - i
 
-loop-holds : tie.Need-loop-holds Inv-loop μ-loop
-loop-holds c = (omega arith, refl)
-
-shared-slice-read-if1 : tie.Need-shared-slice-read-if1 Inv-loop μ-loop
-shared-slice-read-if1 c = search needs
-
-returns : tie.Need-returns Inv-loop μ-loop
-returns c = let l = c .before .before .before in sym (l .loop .inv .1 ∙ (every-step isBlank _ _ 0 (c .before .before .loop-test .taken) ∙ rw (ne-eqb _ _ (c .if1 .taken)) refl))
-
-add-i : tie.Need-add-i Inv-loop μ-loop
-add-i c = search needs
-
-loop-less : tie.Need-loop-less Inv-loop μ-loop
-loop-less c = search needs
-
-loop-again : tie.Need-loop-again Inv-loop μ-loop
-loop-again c = let l = c .before .before .before in (omega arith, l .loop .inv .1 ∙ (every-step isBlank _ _ 0 (c .before .before .loop-test .taken) ∙ rw (eq-eqb _ _ (c .if1 .left)) refl))
-
-returns-2 : tie.Need-returns-2 Inv-loop μ-loop
-returns-2 c = sym (c .before .loop .inv .1 ∙ every-end isBlank _ _ (c .loop-test .left))
-
 pub blank-spec : {M : Type 1} → statement M
 blank-spec =
-    tie.close
-    (tie.spec
-    Inv-loop
-    μ-loop
-    loop-holds
-    shared-slice-read-if1
-    returns
-    add-i
-    loop-less
-    loop-again
-    returns-2)
+    tie.close (tie.spec
+    Inv-loop μ-loop (λ c. (omega arith, refl)) (λ c. search needs)
+    (λ c. let l = c .before .before .before in sym (l .loop .inv .1 ∙ (every-step isBlank _ _ 0 (c .before .before .loop-test .taken) ∙ rw (ne-eqb _ _ (c .if1 .taken)) refl)))
+    (λ c. search needs) (λ c. search needs)
+    (λ c. let l = c .before .before .before in (omega arith, l .loop .inv .1 ∙ (every-step isBlank _ _ 0 (c .before .before .loop-test .taken) ∙ rw (eq-eqb _ _ (c .if1 .left)) refl)))
+    (λ c. sym (c .before .loop .inv .1 ∙ every-end isBlank _ _ (c .loop-test .left))))

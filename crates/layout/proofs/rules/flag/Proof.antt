@@ -4,14 +4,7 @@ use borrow.Author.Tests.{ne-eqb}
 use Rattle.layout.proofs.rules.flag.Statement.{statement}
 use Rattle.layout.proofs.rules.flag.Tie as tie
 
-returns : tie.Need-returns
-returns c = rw (c .match .keys1)
-
-returns-2 : tie.Need-returns-2
-returns-2 c = rw (c .match .keys2)
-
-returns-3 : tie.Need-returns-3
-returns-3 c = rw (ne-eqb _ _ (c .match .rest .0 .1), ne-eqb _ _ (c .match .rest .1))
-
 pub flag-spec : {M : Type 1} → statement M
-flag-spec = tie.close (tie.spec returns returns-2 returns-3)
+flag-spec =
+    tie.close (tie.spec
+    (λ c. rw (c .match .keys1)) (λ c. rw (c .match .keys2)) (λ c. rw (ne-eqb _ _ (c .match .rest .0 .1), ne-eqb _ _ (c .match .rest .1))))

@@ -18,24 +18,6 @@ Inv-loop s good₀ i₀ good i = (i ≤ length s) × (every isText s ≡ (good &
 abbrev μ-loop : tie.MeasureT-loop
 μ-loop s good₀ i₀ good i = length s - i
 
-loop-holds : tie.Need-loop-holds Inv-loop μ-loop
-loop-holds c = (omega arith, refl)
-
-shared-slice-read-text-byte : tie.Need-shared-slice-read-text-byte Inv-loop μ-loop
-shared-slice-read-text-byte c = search needs
-
-text-byte-requires : tie.Need-text-byte-requires Inv-loop μ-loop
-text-byte-requires c κs = search needs
-
-both-requires : tie.Need-both-requires Inv-loop μ-loop
-both-requires c κs = search needs
-
-add-i : tie.Need-add-i Inv-loop μ-loop
-add-i c = search needs
-
-loop-less : tie.Need-loop-less Inv-loop μ-loop
-loop-less c = search needs
-
 loop-again : tie.Need-loop-again Inv-loop μ-loop
 loop-again c =
     let l = c .before .before .before .before in (
@@ -43,20 +25,8 @@ loop-again c =
       l .loop .inv .1 ∙ rw (every-step isText _ _ 0 (c .before .before .before .loop-test .taken), c .both .ensures, and-assoc, c .before .text-byte .ensures) refl,
     )
 
-returns : tie.Need-returns Inv-loop μ-loop
-returns c = sym (c .before .loop .inv .1 ∙ rw (every-end isText _ _ (c .loop-test .left), and-true))
-
 pub text-spec : {M : Type 1} → statement M
 text-spec =
-    tie.close
-    (tie.spec
-    Inv-loop
-    μ-loop
-    loop-holds
-    shared-slice-read-text-byte
-    text-byte-requires
-    both-requires
-    add-i
-    loop-less
-    loop-again
-    returns)
+    tie.close (tie.spec
+    Inv-loop μ-loop (λ c. (omega arith, refl)) (λ c. search needs) (λ c κs. search needs) (λ c κs. search needs) (λ c. search needs)
+    (λ c. search needs) loop-again (λ c. sym (c .before .loop .inv .1 ∙ rw (every-end isText _ _ (c .loop-test .left), and-true))))

@@ -65,3 +65,16 @@ fn is_plain(b: u8) -> bool {
 fn say_hex(digit: u8) {
     say(common::part(b"0123456789ABCDEF", digit as usize, 1));
 }
+
+const LIMIT: usize = 1048576;
+
+// The sum of two places or lengths. None is ever above the limit; the tests stand in for a proof of that.
+pub fn sum(a: usize, b: usize) -> usize {
+    if LIMIT < a {
+        return a;
+    }
+    if LIMIT < b {
+        return a;
+    }
+    a + b
+}

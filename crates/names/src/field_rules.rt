@@ -3,7 +3,9 @@ use super::words::say;
 use super::words::say_digits;
 use super::words::say_number;
 use super::words::say_quoted;
-use layout::Row;
+use super::words::sum;
+use layout::fields;
+use layout::rows::Row;
 use layout::rules;
 
 pub fn say_rule(row: Row, body: &[u8]) {
@@ -42,12 +44,12 @@ fn say_limits_or_blank(least: u32, most: u32, width: usize) {
 }
 
 fn say_text_rule(body: &[u8], start: usize, length: usize) {
-    let text = layout::field(body, start, length);
+    let text = fields::field(body, start, length);
     let bad = first_bad(text);
     say(b"text, of bytes 32 to 126 and 160 to 255 only; the first other byte is ");
-    say_number(common::byte_at(text, super::places::sum(bad, 1)) as usize);
+    say_number(common::byte_at(text, sum(bad, 1)) as usize);
     say(b", at position ");
-    say_number(super::places::sum(start, bad));
+    say_number(sum(start, bad));
 }
 
 // The first byte of a text, from 0, that no text may have.
@@ -75,12 +77,12 @@ fn say_most_persons_rule(body: &[u8], start: usize, field: usize) {
     say(b", and if it is 01 to 98, not below the minimum");
     say_back(
         common::less(field, 1),
-        layout::field(body, common::less(start, 2), 2),
+        fields::field(body, common::less(start, 2), 2),
     );
 }
 
 fn say_factor_rule(body: &[u8], start: usize, field: usize) {
-    let rounding = layout::field(body, common::less(start, 1), 1);
+    let rounding = fields::field(body, common::less(start, 1), 1);
     if common::byte_at(rounding, 1) == b'N' {
         say_limits(0, 999, 3);
     } else {
@@ -100,6 +102,6 @@ fn say_last_day_rule(body: &[u8], start: usize, field: usize) {
     say(b", and not before the first day");
     say_back(
         common::less(field, 2),
-        layout::field(body, common::less(start, 10), 8),
+        fields::field(body, common::less(start, 10), 8),
     );
 }

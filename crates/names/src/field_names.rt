@@ -1,7 +1,7 @@
 // The names of tables and fields, as the layout has them.
 use super::words::say;
 
-pub fn say_mark(table: u8) {
+pub fn say_mark(table: u32) {
     match table {
         layout::CO => say(b"CO"),
         layout::RE => say(b"RE"),
@@ -11,7 +11,7 @@ pub fn say_mark(table: u8) {
     }
 }
 
-pub fn say_table(table: u8) {
+pub fn say_table(table: u32) {
     say_mark(table);
     match table {
         layout::CO => say(b" (conditions)"),
@@ -22,7 +22,7 @@ pub fn say_table(table: u8) {
     }
 }
 
-pub fn say_field(table: u8, field: u8) {
+pub fn say_field(table: u32, field: u32) {
     match table {
         layout::CO => say_co(field),
         layout::RE => say_re(field),
@@ -32,7 +32,7 @@ pub fn say_field(table: u8, field: u8) {
     }
 }
 
-fn say_co(field: u8) {
+fn say_co(field: u32) {
     match field {
         1 => say(b"transferor"),
         2 => say(b"offer number"),
@@ -53,7 +53,7 @@ fn say_co(field: u8) {
     }
 }
 
-fn say_flag(field: u8) {
+fn say_flag(field: u32) {
     match field {
         31 => say(b"train restrictions"),
         32 => say(b"passenger category discounts"),
@@ -66,7 +66,7 @@ fn say_flag(field: u8) {
     }
 }
 
-fn say_re(field: u8) {
+fn say_re(field: u32) {
     match field {
         1 => say(b"transferor"),
         2 => say(b"discount code"),
@@ -83,7 +83,7 @@ fn say_re(field: u8) {
     }
 }
 
-fn say_ar(field: u8) {
+fn say_ar(field: u32) {
     match field {
         1 => say(b"transferor"),
         2 => say(b"offer number"),
@@ -102,7 +102,7 @@ fn say_ar(field: u8) {
     }
 }
 
-fn say_me(field: u8) {
+fn say_me(field: u32) {
     match field {
         1 => say(b"transferor"),
         2 => say(b"offer number"),
