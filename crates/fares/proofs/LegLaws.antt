@@ -11,7 +11,7 @@ use types.Run.{OneOf}
 use denote.Enum.Declared.{tagOf}
 use Rattle.bundle.proofs.choice.Choice.{the-type}
 use Rattle.common.specs.Checks.{refuse, fault, firstFault}
-use Rattle.layout.specs.Layout.{AR, tableAt, tables, co}
+use Rattle.layout.specs.Layout.{AR, tableAt, tables}
 use Rattle.layout.specs.Fields.{rowWith, rowOf, byteOf, isYes}
 use Rattle.layout.specs.declared.fields.Grant.{Grant}
 use Rattle.bundle.specs.Records.{Rec, noRec, recordsOf}
@@ -72,7 +72,7 @@ module _ (s : List ℕ) (q : Question) (leg : Leg) where
 
   -- what the choice of the CO says of the leg: no card without it,
   pub no-card : (conditions ≡ NotThatDay) ⊎ (conditions ≡ Nothing) → Nothing ≡ atPlace s (cardFor R q leg (bodyOf R conditions))
-  unfolding isYes byteOf rowOf rowWith tableAt tables co
+  unfolding isYes byteOf rowOf rowWith tableAt tables
   no-card h = ⊎-elim (λ e. rw e) (λ e. rw e) h
 
   pub card-of : {i : ℕ} {co : List ℕ} → conditions ≡ At i → co ≡ getD R i noRec .body

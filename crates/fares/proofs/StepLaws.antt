@@ -7,7 +7,7 @@ use native.Mathlib.Nat.{mul-zero, mul-le-mul, mul-le-mul-left, le-trans, le-refl
 use native.Mathlib.Omega.{arith}
 use lib.ListN.{length, length-take}
 use Rattle.common.proofs.Digits.{number-small}
-use Rattle.layout.specs.Layout.{CO, AR, tableAt, tables, co, ar}
+use Rattle.layout.specs.Layout.{CO, AR, tableAt, tables}
 use Rattle.layout.specs.Fields.{rowWith, rowOf, bytesOf, numberIn, grantIn}
 use Rattle.layout.specs.declared.fields.Grant.{Grant}
 use Rattle.fares.specs.Rounding.{unit}
@@ -23,11 +23,11 @@ factor-small t f body e =
 
 module _ (body : List ℕ) where
   pub conditions-small : conditionsGrant body .factor ≤ 999
-  unfolding grantIn rowOf rowWith tableAt tables co
+  unfolding grantIn rowOf rowWith tableAt tables
   conditions-small = factor-small CO 41 body refl
 
   pub card-small : cardGrants body .factor ≤ 999
-  unfolding grantIn rowOf rowWith tableAt tables ar
+  unfolding grantIn rowOf rowWith tableAt tables
   card-small = factor-small AR 10 body refl
 
 module _ (r : Grant) where
