@@ -10,15 +10,9 @@ use borrow.Author.Needs.{needs}
 use Rattle.book.proofs.balance.Statement.{statement}
 use Rattle.book.proofs.balance.Tie as tie
 
-is-sound-requires : tie.Need-is-sound-requires
-is-sound-requires c κs = search needs
-
 returns : tie.Need-returns
 unfolding balanceAnswer firstFault
 returns c = rw (fails (c .before .is-sound .result) (c .if1 .taken) (c .before .is-sound .ensures))
-
-is-railway-requires : tie.Need-is-railway-requires
-is-railway-requires c κs = search needs
 
 returns-2 : tie.Need-returns-2
 unfolding balanceAnswer firstFault
@@ -37,6 +31,4 @@ returns-3 c =
     rw (holds (e .before .is-sound .result) (e .if1 .left) (e .before .is-sound .ensures), own, c .owed .ensures ∙ counted-railway (a .railway) (entries (a .book .now)) own)
 
 pub balance-spec : {M : Type 1} → statement M
-balance-spec =
-    tie.close
-    (tie.spec is-sound-requires returns is-railway-requires returns-2 owed-requires returns-3)
+balance-spec = tie.close (tie.spec (λ c κs. search needs) returns (λ c κs. search needs) returns-2 owed-requires returns-3)

@@ -16,12 +16,6 @@ cancelled : (c : tie.After-enum-told) → let a = c .before .before .before .bef
     cancelAnswer (a .book .now) (a .till) (a .sequence) .outcome ≡ Cancelled
 cancelled c = ap (λ (r : Receipt). r .outcome) (sym (c .before .before .judge-cancel .ensures)) ∙ c .enum-told .given .1
 
-judge-cancel-requires : tie.Need-judge-cancel-requires
-judge-cancel-requires c κs = search needs
-
-enum-told : tie.Need-enum-told
-enum-told c = search needs
-
 cast-set-mark : tie.Need-cast-set-mark
 cast-set-mark c =
     let a = c .before .before .before .before .before .before .args in
@@ -30,16 +24,10 @@ cast-set-mark c =
 set-mark-requires : tie.Need-set-mark-requires
 set-mark-requires c κs = let k = cancelled-sound _ _ _ (cancelled (c .before)) in let s = is-sound _ (k .0) in (s .long, s .few, k .2)
 
-same-length : tie.Need-same-length
-same-length c = search needs
-
 returns : tie.Need-returns
 returns c =
     let k = c .before .before .before .before in
     (k .before .before .judge-cancel .ensures, c .before .before .set-mark .ensures ∙ sym (cancelled-writes _ _ _ (cancelled k)))
-
-same-length-2 : tie.Need-same-length-2
-same-length-2 c = search needs
 
 returns-2 : tie.Need-returns-2
 returns-2 c =
@@ -50,11 +38,4 @@ pub cancel-spec : {M : Type 1} → statement M
 cancel-spec =
     tie.close
     (tie.spec
-    judge-cancel-requires
-    enum-told
-    cast-set-mark
-    set-mark-requires
-    same-length
-    returns
-    same-length-2
-    returns-2)
+    (λ c κs. search needs) (λ c. search needs) cast-set-mark set-mark-requires (λ c. search needs) returns (λ c. search needs) returns-2)

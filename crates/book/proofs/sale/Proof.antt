@@ -17,12 +17,6 @@ booked : (c : tie.After-enum-told) → let a = c .before .before .before .before
     saleAnswer (a .book .now) (a .till) (a .sequence) (a .bundle .now) (a .q) .outcome ≡ Booked
 booked c = ap (λ (r : Receipt). r .outcome) (sym (c .before .before .judge-sale .ensures)) ∙ c .enum-told .given .1
 
-judge-sale-requires : tie.Need-judge-sale-requires
-judge-sale-requires c κs = search needs
-
-enum-told : tie.Need-enum-told
-enum-told c = search needs
-
 cast-append : tie.Need-cast-append
 cast-append c =
     let a = c .before .before .before .before .before .before .before .before .args in
@@ -30,9 +24,6 @@ cast-append c =
 
 append-requires : tie.Need-append-requires
 append-requires c κs = let k = booked-sound _ _ _ _ _ (booked (c .before .before)) in (is-sound _ (k .0) .long, k .2)
-
-same-length : tie.Need-same-length
-same-length c = search needs
 
 returns : tie.Need-returns
 returns c =
@@ -45,9 +36,6 @@ returns c =
           ∙ sym (booked-writes _ _ _ _ _ (booked k))),
     )
 
-same-length-2 : tie.Need-same-length-2
-same-length-2 c = search needs
-
 returns-2 : tie.Need-returns-2
 returns-2 c =
     let j = c .before in
@@ -57,11 +45,4 @@ pub sale-spec : {M : Type 1} → statement M
 sale-spec =
     tie.close
     (tie.spec
-    judge-sale-requires
-    enum-told
-    cast-append
-    append-requires
-    same-length
-    returns
-    same-length-2
-    returns-2)
+    (λ c κs. search needs) (λ c. search needs) cast-append append-requires (λ c. search needs) returns (λ c. search needs) returns-2)

@@ -7,9 +7,6 @@ use borrow.Author.Needs.{needs}
 use Rattle.book.proofs.total.Statement.{statement}
 use Rattle.book.proofs.total.Tie as tie
 
-is-sound-requires : tie.Need-is-sound-requires
-is-sound-requires c κs = search needs
-
 returns : tie.Need-returns
 unfolding totalAnswer firstFault
 returns c = rw (fails (c .before .is-sound .result) (c .if1 .taken) (c .before .is-sound .ensures))
@@ -22,4 +19,4 @@ unfolding totalAnswer firstFault
 returns-2 c = let e = c .before in rw (holds (e .before .is-sound .result) (e .if1 .left) (e .before .is-sound .ensures), c .owed .ensures)
 
 pub total-spec : {M : Type 1} → statement M
-total-spec = tie.close (tie.spec is-sound-requires returns owed-requires returns-2)
+total-spec = tie.close (tie.spec (λ c κs. search needs) returns owed-requires returns-2)

@@ -20,41 +20,11 @@ Inv-loop book₀ till sequence q parts count at k₀ book k =
 abbrev μ-loop : tie.MeasureT-loop
 μ-loop book₀ till sequence q parts count at k₀ book k = width - k
 
-slice-read-count : tie.Need-slice-read-count Inv-loop μ-loop
-slice-read-count c = search needs
-
-cast-count : tie.Need-cast-count Inv-loop μ-loop
-cast-count c = search needs
-
-mul-at : tie.Need-mul-at Inv-loop μ-loop
-mul-at c = search needs
-
-add-at : tie.Need-add-at Inv-loop μ-loop
-add-at c = search needs
-
 loop-holds : tie.Need-loop-holds Inv-loop μ-loop
 loop-holds c =
     let a = c .before .before .args in
     let w = a .book .now in
     (omega arith, refl, paste-zero w (1 + countOf w * width) (wordsOf (booking (a .till) (a .sequence) (a .q) (a .parts))))
-
-entry-word-requires : tie.Need-entry-word-requires Inv-loop μ-loop
-entry-word-requires c κs = search needs
-
-add-book : tie.Need-add-book Inv-loop μ-loop
-add-book c = search needs
-
-mul-book : tie.Need-mul-book Inv-loop μ-loop
-mul-book c = search needs
-
-slice-write-book : tie.Need-slice-write-book Inv-loop μ-loop
-slice-write-book c = search needs
-
-add-k : tie.Need-add-k Inv-loop μ-loop
-add-k c = search needs
-
-loop-less : tie.Need-loop-less Inv-loop μ-loop
-loop-less c = search needs
 
 loop-again : tie.Need-loop-again Inv-loop μ-loop
 loop-again c =
@@ -65,18 +35,6 @@ loop-again c =
     let e =
     written (a .till) (a .sequence) (a .q) (a .parts) n w (l .loop .book) (1 + countOf w * width) (l .loop .k) (c .entry-word .result) (omega arith) (c .before .loop-test .taken) (l .loop .inv .2) (c .entry-word .ensures) in
     (omega arith, simp length-set (l .loop .inv .1), e)
-
-add-book-2 : tie.Need-add-book-2 Inv-loop μ-loop
-add-book-2 c = search needs
-
-cast-book : tie.Need-cast-book Inv-loop μ-loop
-cast-book c = search needs
-
-slice-write-book-2 : tie.Need-slice-write-book-2 Inv-loop μ-loop
-slice-write-book-2 c = search needs
-
-same-length : tie.Need-same-length Inv-loop μ-loop
-same-length c = search needs
 
 returns : tie.Need-returns Inv-loop μ-loop
 unfolding added
@@ -91,22 +49,6 @@ pub append-spec : {M : Type 1} → statement M
 append-spec =
     tie.close
     (tie.spec
-    Inv-loop
-    μ-loop
-    slice-read-count
-    cast-count
-    mul-at
-    add-at
-    loop-holds
-    entry-word-requires
-    add-book
-    mul-book
-    slice-write-book
-    add-k
-    loop-less
-    loop-again
-    add-book-2
-    cast-book
-    slice-write-book-2
-    same-length
-    returns)
+    Inv-loop μ-loop (λ c. search needs) (λ c. search needs) (λ c. search needs) (λ c. search needs) loop-holds (λ c κs. search needs)
+    (λ c. search needs) (λ c. search needs) (λ c. search needs) (λ c. search needs) (λ c. search needs) loop-again (λ c. search needs)
+    (λ c. search needs) (λ c. search needs) (λ c. search needs) returns)

@@ -18,20 +18,11 @@ returns-2 c =
     let k = c .before .before .args .k in
     rw (le-ltb k 1 (omega arith), lt-ltb k 2 (c .if2 .taken))
 
-question-word-requires : tie.Need-question-word-requires
-question-word-requires c κs = search needs
-
 returns-3 : tie.Need-returns-3
 unfolding entryWord
 returns-3 c =
     let k = c .before .before .before .before .args .k in
     c .question-word .ensures ∙ sym (rw (le-ltb k 1 (omega arith), le-ltb k 2 (omega arith), lt-ltb k 53 (c .before .if3 .taken)))
-
-mul-result : tie.Need-mul-result
-mul-result c = search needs
-
-array-read-result : tie.Need-array-read-result
-array-read-result c = search needs
 
 returns-4 : tie.Need-returns-4
 unfolding entryWord
@@ -46,14 +37,4 @@ returns-5 c =
     rw (le-ltb k 1 (omega arith), le-ltb k 2 (omega arith), le-ltb k 53 (omega arith), le-ltb k 61 (omega arith))
 
 pub entry-word-spec : {M : Type 1} → statement M
-entry-word-spec =
-    tie.close
-    (tie.spec
-    returns
-    returns-2
-    question-word-requires
-    returns-3
-    mul-result
-    array-read-result
-    returns-4
-    returns-5)
+entry-word-spec = tie.close (tie.spec returns returns-2 (λ c κs. search needs) returns-3 (λ c. search needs) (λ c. search needs) returns-4 returns-5)

@@ -45,20 +45,8 @@ known-answer c i e l =
     let a = c .before .before .before .before .before .args in
     rw e (cancel-known (a .book .now) (a .till) (a .sequence) (sound (c .before .before)) (number c) (rw e at l))
 
-is-sound-requires : tie.Need-is-sound-requires
-is-sound-requires c κs = search needs
-
-refused-requires : tie.Need-refused-requires
-refused-requires c κs = search needs
-
 returns : tie.Need-returns
 returns c = let f = c .before in c .refused .ensures ∙ sym (cancel-unsound _ _ _ (fails (f .before .is-sound .result) (f .if1 .taken) (f .before .is-sound .ensures)))
-
-is-number-requires : tie.Need-is-number-requires
-is-number-requires c κs = search needs
-
-refused-requires-2 : tie.Need-refused-requires-2
-refused-requires-2 c κs = search needs
 
 returns-2 : tie.Need-returns-2
 returns-2 c = let f = c .before in c .refused2 .ensures ∙ sym (cancel-no-number _ _ _ (sound (f .before .before)) (fails (f .before .is-number .result) (f .if2 .taken) (f .before .is-number .ensures)))
@@ -66,17 +54,8 @@ returns-2 c = let f = c .before in c .refused2 .ensures ∙ sym (cancel-no-numbe
 shared-slice-read-count : tie.Need-shared-slice-read-count
 shared-slice-read-count c = omega (arith, known (c .before .before .before) .long, known (c .before .before .before) .few)
 
-cast-count : tie.Need-cast-count
-cast-count c = omega (arith, c .shared-slice-known2 .given 0)
-
-cast-find : tie.Need-cast-find
-cast-find c = omega (arith, small (c .before))
-
 find-requires : tie.Need-find-requires
 find-requires c κs = omega (arith, known (c .before .before .before) .long, known (c .before .before .before) .few)
-
-refused-requires-3 : tie.Need-refused-requires-3
-refused-requires-3 c κs = search needs
 
 returns-3 : tie.Need-returns-3
 returns-3 c =
@@ -132,24 +111,6 @@ pub judge-cancel-spec : {M : Type 1} → statement M
 judge-cancel-spec =
     tie.close
     (tie.spec
-    is-sound-requires
-    refused-requires
-    returns
-    is-number-requires
-    refused-requires-2
-    returns-2
-    shared-slice-read-count
-    cast-count
-    cast-find
-    find-requires
-    refused-requires-3
-    returns-3
-    mul-at
-    add-at
-    add-parts-in
-    parts-in-requires
-    add-if4
-    mul-if4
-    shared-slice-read-if4
-    returns-4
-    returns-5)
+    (λ c κs. search needs) (λ c κs. search needs) returns (λ c κs. search needs) (λ c κs. search needs) returns-2 shared-slice-read-count
+    (λ c. omega (arith, c .shared-slice-known2 .given 0)) (λ c. omega (arith, small (c .before))) find-requires (λ c κs. search needs)
+    returns-3 mul-at add-at add-parts-in parts-in-requires add-if4 mul-if4 shared-slice-read-if4 returns-4 returns-5)

@@ -33,32 +33,14 @@ small c =
     let s = c .before .before .before .before .before .before .args .sequence in
     leb-true s 4294967295 (both-true (leb 1 s) (leb s 4294967295) (both-true (leb 1 t && leb t 65535) (leb 1 s && leb s 4294967295) (number c) .1) .1)
 
-is-sound-requires : tie.Need-is-sound-requires
-is-sound-requires c κs = search needs
-
-refused-requires : tie.Need-refused-requires
-refused-requires c κs = search needs
-
 returns : tie.Need-returns
 returns c = let f = c .before in c .refused .ensures ∙ sym (sale-unsound _ _ _ _ _ (fails (f .before .is-sound .result) (f .if1 .taken) (f .before .is-sound .ensures)))
-
-is-number-requires : tie.Need-is-number-requires
-is-number-requires c κs = search needs
-
-refused-requires-2 : tie.Need-refused-requires-2
-refused-requires-2 c κs = search needs
 
 returns-2 : tie.Need-returns-2
 returns-2 c = let f = c .before in c .refused2 .ensures ∙ sym (sale-no-number _ _ _ _ _ (sound (f .before .before)) (fails (f .before .is-number .result) (f .if2 .taken) (f .before .is-number .ensures)))
 
 shared-slice-read-count : tie.Need-shared-slice-read-count
 shared-slice-read-count c = omega (arith, known (c .before .before .before) .long, known (c .before .before .before) .few)
-
-cast-count : tie.Need-cast-count
-cast-count c = omega (arith, c .shared-slice-known3 .given 0)
-
-cast-find : tie.Need-cast-find
-cast-find c = omega (arith, small (c .before))
 
 find-requires : tie.Need-find-requires
 find-requires c κs = omega (arith, known (c .before .before .before) .long, known (c .before .before .before) .few)
@@ -76,9 +58,6 @@ returns-3 c =
     ∙ (ap (λ i. againAnswer (entryAt (a .book .now) i) i (a .q)) e
     ∙ sym (sale-again (a .book .now) (a .till) (a .sequence) (a .bundle .now) (a .q) (sound (d .before .before)) (number d) (rw e at (c .before .if3 .taken))))
 
-refused-requires-3 : tie.Need-refused-requires-3
-refused-requires-3 c κs = search needs
-
 returns-4 : tie.Need-returns-4
 returns-4 c =
     let f = c .before .before .before in
@@ -86,9 +65,6 @@ returns-4 c =
     let a = d .before .before .before .before .before .before .args in
     c .refused3 .ensures
     ∙ sym (sale-full (a .book .now) (a .till) (a .sequence) (a .bundle .now) (a .q) (sound (d .before .before)) (number d) (rw (f .find .ensures) at (c .before .before .if3 .left)) (c .before .if4 .taken))
-
-sold-first-requires : tie.Need-sold-first-requires
-sold-first-requires c κs = search needs
 
 returns-5 : tie.Need-returns-5
 returns-5 c =
@@ -102,19 +78,6 @@ pub judge-sale-spec : {M : Type 1} → statement M
 judge-sale-spec =
     tie.close
     (tie.spec
-    is-sound-requires
-    refused-requires
-    returns
-    is-number-requires
-    refused-requires-2
-    returns-2
-    shared-slice-read-count
-    cast-count
-    cast-find
-    find-requires
-    sold-again-requires
-    returns-3
-    refused-requires-3
-    returns-4
-    sold-first-requires
-    returns-5)
+    (λ c κs. search needs) (λ c κs. search needs) returns (λ c κs. search needs) (λ c κs. search needs) returns-2 shared-slice-read-count
+    (λ c. omega (arith, c .shared-slice-known3 .given 0)) (λ c. omega (arith, small (c .before))) find-requires sold-again-requires
+    returns-3 (λ c κs. search needs) returns-4 (λ c κs. search needs) returns-5)

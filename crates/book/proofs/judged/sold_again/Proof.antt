@@ -14,37 +14,10 @@ use borrow.Author.Needs.{needs}
 use Rattle.book.proofs.judged.sold_again.Statement.{statement}
 use Rattle.book.proofs.judged.sold_again.Tie as tie
 
-mul-at : tie.Need-mul-at
-mul-at c = search needs
-
-add-at : tie.Need-add-at
-add-at c = search needs
-
-add-asked : tie.Need-add-asked
-add-asked c = search needs
-
-add-parts : tie.Need-add-parts
-add-parts c = search needs
-
-mul-says : tie.Need-mul-says
-mul-says c = search needs
-
-sub-says : tie.Need-sub-says
-sub-says c = search needs
-
-part-says-start : tie.Need-part-says-start
-part-says-start c = search needs
-
-part-says-end : tie.Need-part-says-end
-part-says-end c = search needs
-
 says-requires : tie.Need-says-requires
 says-requires c κs =
     let s = c .before .before in
     simp (length-take, length-drop) (omega (arith, s .pre))
-
-refused-requires : tie.Need-refused-requires
-refused-requires c κs = search needs
 
 returns : tie.Need-returns
 returns c =
@@ -52,18 +25,6 @@ returns c =
     let a = f .before .before .before .args in
     let e = f .says .ensures ∙ ap (λ x. same x (questionWords (a .q))) (asked-lent (a .book .now) (a .place)) in
     c .refused .ensures ∙ sym (again-other (entryAt (a .book .now) (a .place)) (a .place) (a .q) (fails (f .says .result) (c .before .if1 .taken) e))
-
-add-t7 : tie.Need-add-t7
-add-t7 c = search needs
-
-mul-t10 : tie.Need-mul-t10
-mul-t10 c = search needs
-
-shared-slice-read-t15 : tie.Need-shared-slice-read-t15
-shared-slice-read-t15 c = search needs
-
-parts-in-requires : tie.Need-parts-in-requires
-parts-in-requires c κs = search needs
 
 returns-2 : tie.Need-returns-2
 returns-2 c =
@@ -80,19 +41,6 @@ pub sold-again-spec : {M : Type 1} → statement M
 sold-again-spec =
     tie.close
     (tie.spec
-    mul-at
-    add-at
-    add-asked
-    add-parts
-    mul-says
-    sub-says
-    part-says-start
-    part-says-end
-    says-requires
-    refused-requires
-    returns
-    add-t7
-    mul-t10
-    shared-slice-read-t15
-    parts-in-requires
-    returns-2)
+    (λ c. search needs) (λ c. search needs) (λ c. search needs) (λ c. search needs) (λ c. search needs) (λ c. search needs)
+    (λ c. search needs) (λ c. search needs) says-requires (λ c κs. search needs) returns (λ c. search needs) (λ c. search needs)
+    (λ c. search needs) (λ c κs. search needs) returns-2)

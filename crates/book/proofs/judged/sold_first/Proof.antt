@@ -7,18 +7,6 @@ use borrow.Author.Needs.{needs}
 use Rattle.book.proofs.judged.sold_first.Statement.{statement}
 use Rattle.book.proofs.judged.sold_first.Tie as tie
 
-fare-requires : tie.Need-fare-requires
-fare-requires c κs = search needs
-
-enum-known-outcome : tie.Need-enum-known-outcome
-enum-known-outcome c = search needs
-
-refused-requires : tie.Need-refused-requires
-refused-requires c κs = search needs
-
-enum-told : tie.Need-enum-told
-enum-told c = search needs
-
 returns : tie.Need-returns
 returns c =
     let k = c .before in
@@ -34,6 +22,4 @@ returns-2 c =
     ∙ sym (quote-priced (a .bundle .now) (a .q) (ap (λ x. x .outcome) (sym (f .fare .ensures)) ∙ c .before .enum-told .given .1))
 
 pub sold-first-spec : {M : Type 1} → statement M
-sold-first-spec =
-    tie.close
-    (tie.spec fare-requires enum-known-outcome refused-requires enum-told returns returns-2)
+sold-first-spec = tie.close (tie.spec (λ c κs. search needs) (λ c. search needs) (λ c κs. search needs) (λ c. search needs) returns returns-2)

@@ -41,21 +41,6 @@ returns c =
     let a = l .before .before .args in
     sym (number-repeats (entryAt (a .book .now)) (a .n) (l .loop .i) (c .before .before .loop-test .taken) (l .loop .inv .1) (tested (c .before) ∙ c .if1 .taken))
 
-mul-rank-at : tie.Need-mul-rank-at Inv-loop μ-loop
-mul-rank-at c = omega arith
-
-add-rank-at : tie.Need-add-rank-at Inv-loop μ-loop
-add-rank-at c = omega arith
-
-rank-at-requires : tie.Need-rank-at-requires Inv-loop μ-loop
-rank-at-requires c κs = omega arith
-
-add-i : tie.Need-add-i Inv-loop μ-loop
-add-i c = omega arith
-
-loop-less : tie.Need-loop-less Inv-loop μ-loop
-loop-less c = omega arith
-
 loop-again : tie.Need-loop-again Inv-loop μ-loop
 loop-again c =
     let r = c .before in
@@ -83,15 +68,5 @@ pub numbers-differ-spec : {M : Type 1} → statement M
 numbers-differ-spec =
     tie.close
     (tie.spec
-    Inv-loop
-    μ-loop
-    loop-holds
-    repeats-earlier-requires
-    returns
-    mul-rank-at
-    add-rank-at
-    rank-at-requires
-    add-i
-    loop-less
-    loop-again
-    returns-2)
+    Inv-loop μ-loop loop-holds repeats-earlier-requires returns (λ c. omega arith) (λ c. omega arith) (λ c κs. omega arith)
+    (λ c. omega arith) (λ c. omega arith) loop-again returns-2)

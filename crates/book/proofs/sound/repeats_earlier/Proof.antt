@@ -10,38 +10,11 @@ use Rattle.book.proofs.RankLaws.{rank-words, above-none}
 use Rattle.book.proofs.sound.repeats_earlier.Statement.{statement}
 use Rattle.book.proofs.sound.repeats_earlier.Tie as tie
 
-mul-at : tie.Need-mul-at
-mul-at c = search needs
-
-add-at : tie.Need-add-at
-add-at c = search needs
-
-rank-at-requires : tie.Need-rank-at-requires
-rank-at-requires c κs = search needs
-
 returns : tie.Need-returns
 returns c =
     let s = c .before .before .before in
     let w = s .args .book .now in
     sym (above-none w (s .args .i) (s .args .top) (s .pre .2) (omega (arith, c .if1 .taken, c .before .rank-at .ensures, rank-words w (s .args .i))))
-
-mul-find : tie.Need-mul-find
-mul-find c = search needs
-
-shared-slice-read-find : tie.Need-shared-slice-read-find
-shared-slice-read-find c = search needs
-
-add-find : tie.Need-add-find
-add-find c = search needs
-
-mul-find-2 : tie.Need-mul-find-2
-mul-find-2 c = search needs
-
-shared-slice-read-find-2 : tie.Need-shared-slice-read-find-2
-shared-slice-read-find-2 c = search needs
-
-find-requires : tie.Need-find-requires
-find-requires c κs = search needs
 
 returns-2 : tie.Need-returns-2
 returns-2 c =
@@ -52,14 +25,5 @@ pub repeats-earlier-spec : {M : Type 1} → statement M
 repeats-earlier-spec =
     tie.close
     (tie.spec
-    mul-at
-    add-at
-    rank-at-requires
-    returns
-    mul-find
-    shared-slice-read-find
-    add-find
-    mul-find-2
-    shared-slice-read-find-2
-    find-requires
-    returns-2)
+    (λ c. search needs) (λ c. search needs) (λ c κs. search needs) returns (λ c. search needs) (λ c. search needs) (λ c. search needs)
+    (λ c. search needs) (λ c. search needs) (λ c κs. search needs) returns-2)

@@ -35,32 +35,8 @@ turned c =
     let w = a .book .now in
     sum-turn (counted (a .railway)) w (counted-small w (small l) (a .railway)) (l .loop .i) (l .loop .sum) (c .entry-owed .result) (l .loop .inv .1) (c .entry-owed .ensures)
 
-shared-slice-read-count : tie.Need-shared-slice-read-count Inv-loop μ-loop
-shared-slice-read-count c = omega (arith, long (c .before .before))
-
-cast-count : tie.Need-cast-count Inv-loop μ-loop
-cast-count c = omega (arith, c .before .shared-slice-known .given 0)
-
 loop-holds : tie.Need-loop-holds Inv-loop μ-loop
 loop-holds c = (omega arith, sum-start (counted (c .before .before .args .railway)) (c .before .before .args .book .now))
-
-mul-at : tie.Need-mul-at Inv-loop μ-loop
-mul-at c = omega (arith, few (c .before))
-
-add-at : tie.Need-add-at Inv-loop μ-loop
-add-at c = omega (arith, few (c .before))
-
-add-end : tie.Need-add-end Inv-loop μ-loop
-add-end c = omega (arith, few (c .before))
-
-mul-entry-owed : tie.Need-mul-entry-owed Inv-loop μ-loop
-mul-entry-owed c = omega (arith, few (c .before))
-
-sub-entry-owed : tie.Need-sub-entry-owed Inv-loop μ-loop
-sub-entry-owed c = omega arith
-
-part-entry-owed-start : tie.Need-part-entry-owed-start Inv-loop μ-loop
-part-entry-owed-start c = search needs
 
 part-entry-owed-end : tie.Need-part-entry-owed-end Inv-loop μ-loop
 part-entry-owed-end c =
@@ -72,15 +48,6 @@ entry-owed-requires : tie.Need-entry-owed-requires Inv-loop μ-loop
 entry-owed-requires c κs =
     let l = c .before .before in
     block-length (l .before .before .before .args .book .now) (l .loop .i) (omega (arith, few l, long (l .before .before .before)))
-
-add-sum : tie.Need-add-sum Inv-loop μ-loop
-add-sum c = omega (arith, few (c .before .before .before), turned c .0)
-
-add-i : tie.Need-add-i Inv-loop μ-loop
-add-i c = omega (arith, few (c .before .before .before))
-
-loop-less : tie.Need-loop-less Inv-loop μ-loop
-loop-less c = omega arith
 
 loop-again : tie.Need-loop-again Inv-loop μ-loop
 loop-again c = (omega arith, turned c)
@@ -95,21 +62,8 @@ pub owed-spec : {M : Type 1} → statement M
 owed-spec =
     tie.close
     (tie.spec
-    Inv-loop
-    μ-loop
-    shared-slice-read-count
-    cast-count
-    loop-holds
-    mul-at
-    add-at
-    add-end
-    mul-entry-owed
-    sub-entry-owed
-    part-entry-owed-start
-    part-entry-owed-end
-    entry-owed-requires
-    add-sum
-    add-i
-    loop-less
-    loop-again
-    returns)
+    Inv-loop μ-loop (λ c. omega (arith, long (c .before .before))) (λ c. omega (arith, c .before .shared-slice-known .given 0)) loop-holds
+    (λ c. omega (arith, few (c .before))) (λ c. omega (arith, few (c .before))) (λ c. omega (arith, few (c .before)))
+    (λ c. omega (arith, few (c .before))) (λ c. omega arith) (λ c. search needs) part-entry-owed-end entry-owed-requires
+    (λ c. omega (arith, few (c .before .before .before), turned c .0)) (λ c. omega (arith, few (c .before .before .before)))
+    (λ c. omega arith) loop-again returns)

@@ -20,12 +20,6 @@ rest-of c =
 returns : tie.Need-returns
 returns c = sym (rest-of (c .before) ∙ rw (lt-ltb _ 19 (c .if1 .taken)))
 
-leg-at-requires : tie.Need-leg-at-requires
-leg-at-requires c κs = search needs
-
-leg-word-requires : tie.Need-leg-word-requires
-leg-word-requires c κs = search needs
-
 returns-2 : tie.Need-returns-2
 unfolding questionWord
 returns-2 c = rw (c .match .keys1)
@@ -54,12 +48,4 @@ pub question-word-spec : {M : Type 1} → statement M
 question-word-spec =
     tie.close
     (tie.spec
-    returns
-    leg-at-requires
-    leg-word-requires
-    returns-2
-    returns-3
-    returns-4
-    returns-5
-    returns-6
-    returns-7)
+    returns (λ c κs. search needs) (λ c κs. search needs) returns-2 returns-3 returns-4 returns-5 returns-6 returns-7)

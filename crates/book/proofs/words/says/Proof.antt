@@ -17,9 +17,6 @@ Inv-loop words q j₀ j = (j ≤ 8) × ((k : ℕ) → k < 19 + 4 * j → getD wo
 abbrev μ-loop : tie.MeasureT-loop
 μ-loop words q j₀ j = 8 - j
 
-head-says-requires : tie.Need-head-says-requires Inv-loop μ-loop
-head-says-requires c κs = search needs
-
 returns : tie.Need-returns Inv-loop μ-loop
 returns c =
     let a = c .before .before .before .args in
@@ -30,12 +27,6 @@ loop-holds c =
     let s = c .before .before .before in
     (omega arith, λ k l. head-said (s .args .words .now) (s .args .q) (holds (c .before .head-says .result) (c .if1 .left) (c .before .head-says .ensures)) k (omega arith))
 
-leg-at-requires : tie.Need-leg-at-requires Inv-loop μ-loop
-leg-at-requires c κs = search needs
-
-leg-says-requires : tie.Need-leg-says-requires Inv-loop μ-loop
-leg-says-requires c κs = search needs
-
 returns-2 : tie.Need-returns-2 Inv-loop μ-loop
 returns-2 c =
     let r = c .before in
@@ -44,12 +35,6 @@ returns-2 c =
     sym
     (leg-differs (a .words .now) (a .q) (l .loop .j) (r .before .before .loop-test .taken) (r .before .leg-at .ensures)
     (fails (r .leg-says .result) (c .if2 .taken) (r .leg-says .ensures)))
-
-add-j : tie.Need-add-j Inv-loop μ-loop
-add-j c = omega arith
-
-loop-less : tie.Need-loop-less Inv-loop μ-loop
-loop-less c = omega arith
 
 loop-again : tie.Need-loop-again Inv-loop μ-loop
 loop-again c =
@@ -71,15 +56,5 @@ pub says-spec : {M : Type 1} → statement M
 says-spec =
     tie.close
     (tie.spec
-    Inv-loop
-    μ-loop
-    head-says-requires
-    returns
-    loop-holds
-    leg-at-requires
-    leg-says-requires
-    returns-2
-    add-j
-    loop-less
-    loop-again
-    returns-3)
+    Inv-loop μ-loop (λ c κs. search needs) returns loop-holds (λ c κs. search needs) (λ c κs. search needs) returns-2 (λ c. omega arith)
+    (λ c. omega arith) loop-again returns-3)
