@@ -1,53 +1,55 @@
 -- The words of an entry as a part of the book's, and the entries in use.
 -- Assumes nothing.
 use Prim.Native.Nat.{ℕ, _+_, _*_, _≤_, _<_}
-use mathlib.Core.Path.{_≡_, sym, _∙_, ap}
+use mathlib.Core.Path.{_≡_, refl, sym, _∙_, ap}
 use mathlib.Core.List.{List, [], _∷_, _++_, append-assoc}
-use native.Mathlib.Nat.{add-zero}
+use native.Mathlib.Nat.{add-zero, add-assoc}
 use native.Mathlib.Omega.{arith}
-use lib.ListN.{length, getD, take, drop, set, length-append, length-drop, take-append-drop}
-use lib.Seq.{getD-take, getD-drop, drop-cons, drop-drop, drop-set-lt, drop-set-add, take-set-lt, take-set-le, getD-set-same, getD-set-other, drop-append-le, take-append-le, take-at, drop-at, take-all, length-take-le, paste, drop-paste, length-paste}
-use Rattle.book.specs.Words.{Entry, entryOf, wordsOf, width, questionWidth}
+use lib.ListN.{length, getD, take, drop, set, replicate, length-append, length-drop, take-append-drop}
+use lib.Seq.{getD-take, getD-drop, drop-cons, drop-drop, drop-set-lt, drop-set-add, take-set-lt, take-set-le, getD-set-same, getD-set-other, drop-append-le, take-append-le, take-at, drop-at, take-all, length-take-le, take-append-add, paste, take-paste, drop-paste, length-paste}
+use Rattle.fares.specs.declared.Question.{Question}
+use Rattle.book.specs.Words.{Entry, askedAt, partsAt, statusAt, spareAt, width, questionWidth, questionWords, entryOf, wordsOf, booking, startOf}
+use Rattle.book.proofs.QuestionWords.{words-length}
 
 -- word k of entry i
-pub word-at : (w : List ℕ) (i k : ℕ) → k < width → getD (take width (drop (1 + i * width) w)) k 0 ≡ getD w (1 + i * width + k) 0
-word-at w i k l = getD-take width (drop (1 + i * width) w) k 0 l ∙ getD-drop (1 + i * width) w k 0
+pub word-at : (w : List ℕ) (i k : ℕ) → k < width → getD (take width (drop (startOf i) w)) k 0 ≡ getD w (startOf i + k) 0
+word-at w i k l = getD-take width (drop (startOf i) w) k 0 l ∙ getD-drop (startOf i) w k 0
 
 abbrev pub block : List ℕ → ℕ → List ℕ
-block w i = take width (drop (1 + i * width) w)
+block w i = take width (drop (startOf i) w)
 
 -- A STORE: a block that the place is not in stays as it was,
 module _ (w : List ℕ) (v : ℕ) where
-  pub store-before : (p i : ℕ) → p < 1 + i * width → block (set w p v) i ≡ block w i
-  store-before p i l = ap (take width) (drop-set-lt (1 + i * width) w p v l)
+  pub store-before : (p i : ℕ) → p < startOf i → block (set w p v) i ≡ block w i
+  store-before p i l = ap (take width) (drop-set-lt (startOf i) w p v l)
 
-  pub store-in : (i k : ℕ) → k < width → block (set w (1 + i * width + k) v) i ≡ set (block w i) k v
-  store-in i k l = ap (take width) (drop-set-add (1 + i * width) w k v) ∙ take-set-lt width (drop (1 + i * width) w) k v l
+  pub store-in : (i k : ℕ) → k < width → block (set w (startOf i + k) v) i ≡ set (block w i) k v
+  store-in i k l = ap (take width) (drop-set-add (startOf i) w k v) ∙ take-set-lt width (drop (startOf i) w) k v l
 
-  pub store-after : (i k : ℕ) → width ≤ k → block (set w (1 + i * width + k) v) i ≡ block w i
-  store-after i k l = ap (take width) (drop-set-add (1 + i * width) w k v) ∙ take-set-le width (drop (1 + i * width) w) k v l
+  pub store-after : (i k : ℕ) → width ≤ k → block (set w (startOf i + k) v) i ≡ block w i
+  store-after i k l = ap (take width) (drop-set-add (startOf i) w k v) ∙ take-set-le width (drop (startOf i) w) k v l
 
--- and one at the mark marks the entry.
-abbrev pub marked : Entry → Entry
-marked e = record { till = e .till; sequence = e .sequence; asked = e .asked; parts = e .parts; mark = 1; spare = e .spare }
+-- and one at the status cancels the entry.
+abbrev pub cancelledEntry : Entry → Entry
+cancelledEntry e = record { till = e .till; sequence = e .sequence; asked = e .asked; parts = e .parts; status = 1; spare = e .spare }
 
-pub mark-set : (b : List ℕ) → 61 < length b → entryOf (set b 61 1) ≡ marked (entryOf b)
-mark-set b l =
-    let a : take questionWidth (drop 2 (set b 61 1)) ≡ take questionWidth (drop 2 b) = ap (take questionWidth) (drop-set-add 2 b 59 1) ∙ take-set-le questionWidth (drop 2 b) 59 1 (omega arith) in
-    let p : take 8 (drop 53 (set b 61 1)) ≡ take 8 (drop 53 b) = ap (take 8) (drop-set-add 53 b 8 1) ∙ take-set-le 8 (drop 53 b) 8 1 (omega arith) in
-    let z : take 2 (drop 62 (set b 61 1)) ≡ take 2 (drop 62 b) = ap (take 2) (drop-set-lt 62 b 61 1 (omega arith)) in
-    let t : getD (set b 61 1) 0 0 ≡ getD b 0 0 = getD-set-other b 61 0 1 0 (λ e. omega arith) in
-    let s : getD (set b 61 1) 1 0 ≡ getD b 1 0 = getD-set-other b 61 1 1 0 (λ e. omega arith) in
-    let m : getD (set b 61 1) 61 0 ≡ 1 = getD-set-same b 61 1 0 l in
-    λ j. record { till = t j; sequence = s j; asked = a j; parts = p j; mark = m j; spare = z j }
+pub status-set : (b : List ℕ) → statusAt < length b → entryOf (set b statusAt 1) ≡ cancelledEntry (entryOf b)
+status-set b l =
+    let a : take questionWidth (drop askedAt (set b statusAt 1)) ≡ take questionWidth (drop askedAt b) = ap (take questionWidth) (drop-set-add askedAt b (questionWidth + 8) 1) ∙ take-set-le questionWidth (drop askedAt b) (questionWidth + 8) 1 (omega arith) in
+    let p : take 8 (drop partsAt (set b statusAt 1)) ≡ take 8 (drop partsAt b) = ap (take 8) (drop-set-add partsAt b 8 1) ∙ take-set-le 8 (drop partsAt b) 8 1 (omega arith) in
+    let z : take 2 (drop spareAt (set b statusAt 1)) ≡ take 2 (drop spareAt b) = ap (take 2) (drop-set-lt spareAt b statusAt 1 (omega arith)) in
+    let t : getD (set b statusAt 1) 0 0 ≡ getD b 0 0 = getD-set-other b statusAt 0 1 0 (λ e. omega arith) in
+    let s : getD (set b statusAt 1) 1 0 ≡ getD b 1 0 = getD-set-other b statusAt 1 1 0 (λ e. omega arith) in
+    let m : getD (set b statusAt 1) statusAt 0 ≡ 1 = getD-set-same b statusAt 1 0 l in
+    λ j. record { till = t j; sequence = s j; asked = a j; parts = p j; status = m j; spare = z j }
 
 -- AN ENTRY ADDED: what stands in front of it, it itself, and what stands behind.
 front : (p q : List ℕ) (a k : ℕ) → a + k ≤ length p → take k (drop a (p ++ q)) ≡ take k (drop a p)
 front p q a k l = rw (drop-append-le a p q (omega arith)) (take-append-le k (drop a p) q (rw length-drop (omega arith)))
 
-module _ (w : List ℕ) (n : ℕ) (ws : List ℕ) (fits : 1 + n * width + width ≤ length w) (long : length ws ≡ width) where
+module _ (w : List ℕ) (n : ℕ) (ws : List ℕ) (fits : startOf n + width ≤ length w) (long : length ws ≡ width) where
   abbrev at : ℕ
-  at = 1 + n * width
+  at = startOf n
 
   abbrev pasted : List ℕ
   pasted = paste w at ws width
@@ -60,10 +62,10 @@ module _ (w : List ℕ) (n : ℕ) (ws : List ℕ) (fits : 1 + n * width + width 
 
   pub added-before : (i : ℕ) → i < n → block pasted i ≡ block w i
   added-before i l =
-      let a : (1 + i * width) + width ≤ length (take at w) = rw head-length (omega arith) in
+      let a : (startOf i) + width ≤ length (take at w) = rw head-length (omega arith) in
       ap (λ l. block l i) opened
-      ∙ front (take at w) (take width ws ++ drop (at + width) w) (1 + i * width) width a
-      ∙ sym (rw (take-append-drop at w) at (front (take at w) (drop at w) (1 + i * width) width a))
+      ∙ front (take at w) (take width ws ++ drop (at + width) w) (startOf i) width a
+      ∙ sym (rw (take-append-drop at w) at (front (take at w) (drop at w) (startOf i) width a))
 
   pub added-there : block pasted n ≡ ws
   added-there =
@@ -77,34 +79,76 @@ module _ (w : List ℕ) (n : ℕ) (ws : List ℕ) (fits : 1 + n * width + width 
   pub added-length : length pasted ≡ length w
   added-length = length-paste w at ws width fits (omega (arith, long))
 
+-- an entry of the right widths
+pub record Whole (e : Entry) : Type 0 where
+  pub asked-long : length (e .asked) ≡ questionWidth
+  pub parts-long : length (e .parts) ≡ 8
+  pub spare-long : length (e .spare) ≡ 2
+
 -- the words of an entry say the entry
-pub words-back : (e : Entry) → length (e .asked) ≡ questionWidth → length (e .parts) ≡ 8 → length (e .spare) ≡ 2
-    → (entryOf (wordsOf e) ≡ e) × (length (wordsOf e) ≡ width)
+pub words-back : (e : Entry) → Whole e → (entryOf (wordsOf e) ≡ e) × (length (wordsOf e) ≡ width)
 unfolding wordsOf
-words-back e la lp ls =
-    let tail = e .mark ∷ e .spare in
-    let a : take questionWidth (e .asked ++ (e .parts ++ tail)) ≡ e .asked = take-at (e .asked) (e .parts ++ tail) questionWidth la in
-    let d : drop questionWidth (e .asked ++ (e .parts ++ tail)) ≡ e .parts ++ tail = drop-at (e .asked) (e .parts ++ tail) questionWidth la in
-    let p : take 8 (drop 51 (e .asked ++ (e .parts ++ tail))) ≡ e .parts = rw d (take-at (e .parts) tail 8 lp) in
-    let x : drop 59 (e .asked ++ (e .parts ++ tail)) ≡ tail =
-    sym (drop-drop 8 51 (e .asked ++ (e .parts ++ tail))) ∙ rw d (drop-at (e .parts) tail 8 lp) in
-    let m : getD (e .asked ++ (e .parts ++ tail)) 59 0 ≡ e .mark = sym (rw add-zero at (getD-drop 59 (e .asked ++ (e .parts ++ tail)) 0 0)) ∙ rw x in
-    let z : take 2 (drop 60 (e .asked ++ (e .parts ++ tail))) ≡ e .spare =
-    ap (take 2) (sym (drop-drop 1 59 (e .asked ++ (e .parts ++ tail))) ∙ ap (drop 1) x) ∙ take-all 2 (e .spare) (omega (arith, ls)) in (
-      λ j. record { till = e .till; sequence = e .sequence; asked = a j; parts = p j; mark = m j; spare = z j },
-      simp length-append (omega (arith, la, lp, ls)),
+words-back e h =
+    let tail = e .status ∷ e .spare in
+    let r = e .asked ++ (e .parts ++ tail) in
+    let a : take questionWidth r ≡ e .asked = take-at (e .asked) (e .parts ++ tail) questionWidth (h .asked-long) in
+    let d : drop questionWidth r ≡ e .parts ++ tail = drop-at (e .asked) (e .parts ++ tail) questionWidth (h .asked-long) in
+    let p : take 8 (drop questionWidth r) ≡ e .parts = rw d (take-at (e .parts) tail 8 (h .parts-long)) in
+    let x : drop (questionWidth + 8) r ≡ tail = sym (drop-drop 8 questionWidth r) ∙ rw d (drop-at (e .parts) tail 8 (h .parts-long)) in
+    let m : getD r (questionWidth + 8) 0 ≡ e .status = sym (rw add-zero at (getD-drop (questionWidth + 8) r 0 0)) ∙ rw x in
+    let z : take 2 (drop (questionWidth + 8 + 1) r) ≡ e .spare =
+    ap (take 2) (sym (drop-drop 1 (questionWidth + 8) r) ∙ ap (drop 1) x) ∙ take-all 2 (e .spare) (omega (arith, h .spare-long)) in (
+      λ j. record { till = e .till; sequence = e .sequence; asked = a j; parts = p j; status = m j; spare = z j },
+      simp length-append (omega (arith, h .asked-long, h .parts-long, h .spare-long)),
     )
 
 -- and the entry that words say has those words: between words and entries nothing is lost either way
-pub block-back : (b : List ℕ) → length b ≡ width → wordsOf (entryOf b) ≡ b
+pub block-back : (ws : List ℕ) → length ws ≡ width → wordsOf (entryOf ws) ≡ ws
 unfolding wordsOf
 block-back [] l = absurd (omega (arith, l))
 block-back (x ∷ []) l = absurd (omega (arith, l))
 block-back (x ∷ y ∷ r) l =
-    let n : length r ≡ 62 = omega (arith, l) in
-    let tail : getD r 59 0 ∷ take 2 (drop 60 r) ≡ drop 59 r =
-    ap (getD r 59 0 ∷_) (take-all 2 (drop 60 r) (rw (length-drop 60 r, n) (omega arith))) ∙ sym (drop-cons r 59 0 (rw n (omega arith))) in
-    let parts : take 8 (drop 51 r) ++ drop 59 r ≡ drop 51 r =
-    ap (take 8 (drop 51 r) ++_) (sym (drop-drop 8 51 r)) ∙ take-append-drop 8 (drop 51 r) in
-    ap (λ t. x ∷ y ∷ (take 51 r ++ t)) (ap (take 8 (drop 51 r) ++_) tail ∙ parts)
-    ∙ ap (λ t. x ∷ y ∷ t) (take-append-drop 51 r)
+    let p = drop questionWidth r in
+    let z = drop (questionWidth + 8) r in
+    let n : length r ≡ questionWidth + 11 = omega (arith, l) in
+    let s : getD r (questionWidth + 8) 0 ∷ take 2 (drop (questionWidth + 9) r) ≡ z =
+    ap (getD r (questionWidth + 8) 0 ∷_) (take-all 2 (drop (questionWidth + 9) r) (rw (length-drop (questionWidth + 9) r, n) (omega arith)))
+    ∙ sym (drop-cons r (questionWidth + 8) 0 (rw n (omega arith))) in
+    let e : take 8 p ++ z ≡ p = ap (take 8 p ++_) (sym (drop-drop 8 questionWidth r)) ∙ take-append-drop 8 p in
+    ap (λ t. x ∷ y ∷ (take questionWidth r ++ t)) (ap (take 8 p ++_) s ∙ e) ∙ ap (λ t. x ∷ y ∷ t) (take-append-drop questionWidth r)
+
+-- WORDS PUT ONE BEHIND ANOTHER are words put at once: those of a new entry
+module _ (w xs ys : List ℕ) (at n m : ℕ) (k : length xs ≡ n) (l : length ys ≡ m) (h : at + n ≤ length w) where
+  put-behind : paste (paste w at xs n) (at + n) ys m ≡ paste w at (xs ++ ys) (n + m)
+  put-behind =
+      let d : drop (at + n + m) (paste w at xs n) ≡ drop (at + (n + m)) w =
+      sym (drop-drop m (at + n) (paste w at xs n))
+      ∙ (ap (drop m) (drop-paste w at xs n (omega arith) (omega arith)) ∙ (drop-drop m (at + n) w ∙ ap (λ i. drop i w) (add-assoc at n m))) in
+      let x : take (n + m) (xs ++ ys) ≡ take n xs ++ take m ys =
+      ap (λ i. take (i + m) (xs ++ ys)) (sym k) ∙ (take-append-add xs ys m ∙ ap (_++ take m ys) (sym (take-all n xs (omega arith)))) in
+      rw (take-paste w at xs n (omega arith) (omega arith), d, x)
+      (ap (_++ drop (at + (n + m)) w) (append-assoc (take at w) (take n xs) (take m ys)))
+
+module _ (w : List ℕ) (at t s : ℕ) (q : Question) (parts : List ℕ) (eight : length parts ≡ 8) (h : at + width ≤ length w) where
+  abbrev new : Entry
+  new = booking t s q parts
+
+  abbrev number : List ℕ
+  number = t ∷ s ∷ []
+
+  pub new-whole : Whole new
+  new-whole = record { asked-long = words-length q; parts-long = eight; spare-long = refl }
+
+  pub entry-put : {asked a b c d : List ℕ} → asked ≡ questionWords q → a ≡ paste w at number 2 → b ≡ paste a (at + askedAt) asked (length asked)
+      → c ≡ paste b (at + partsAt) parts (length parts) → d ≡ paste c (at + statusAt) (replicate 3 0) 3
+      → (d ≡ paste w at (wordsOf new) width) × (length d ≡ length w)
+  unfolding wordsOf
+  entry-put {d = d} i ea eb ec ed =
+      let n = words-length q in
+      let m : length (number ++ questionWords q) ≡ partsAt = omega (arith, n) in
+      let k : length ((number ++ questionWords q) ++ parts) ≡ statusAt = length-append (number ++ questionWords q) parts ∙ omega (arith, m) in
+      let p : d ≡ paste w at (wordsOf new) width =
+      ed
+      ∙ rw (ec, eb, ea, i, n, eight, put-behind w number (questionWords q) at 2 questionWidth refl n (omega arith), put-behind w (number ++ questionWords q) parts at partsAt 8 m eight (omega arith), put-behind w ((number ++ questionWords q) ++ parts) (replicate 3 0) at statusAt 3 k refl (omega arith))
+      (ap (λ ws. paste w at (t ∷ s ∷ ws) width) (append-assoc (questionWords q) parts (replicate 3 0))) in
+      (p, ap length p ∙ length-paste w at (wordsOf new) width h (omega (arith, words-back new new-whole .1)))

@@ -1,4 +1,4 @@
--- What a sound book says, and what a mark set and an entry added do to its entries.
+-- What a sound book says, and what an entry added and one cancelled do to its entries.
 -- Assumes nothing.
 use Prim.Native.Nat.{ℕ, zero, suc, _+_, _-_, _*_, _≤_, _<_}
 use mathlib.Core.Path.{_≡_, refl, sym, _∙_, ap, ap₂}
@@ -13,10 +13,10 @@ use borrow.Author.Tests.{eqb-true, leb-true, eq-eqb, le-leb}
 use Rattle.common.specs.Lists.{every}
 use Rattle.common.proofs.Tests.{order, both-true}
 use Rattle.common.proofs.Lists.{every-at, upto-length, upto-at, upto-same, upto-more}
-use Rattle.book.specs.Words.{Entry, noEntry, entryOf, entryAt, capacity, width, questionWidth, bookLength, countOf, entries, wordsOf}
+use Rattle.book.specs.Words.{Entry, noEntry, entryOf, entryAt, capacity, width, questionWidth, bookLength, countOf, entries, wordsOf, statusAt, startOf}
 use Rattle.book.specs.Sound.{isZero, entrySound, numbersDiffer, soundWords}
 use Rattle.book.specs.Sales.{added}
-use Rattle.book.proofs.Blocks.{block, marked, store-before, store-in, store-after, mark-set, added-before, added-there, added-behind, added-length, words-back}
+use Rattle.book.proofs.Blocks.{block, cancelledEntry, store-before, store-in, store-after, status-set, added-before, added-there, added-behind, added-length, Whole, words-back}
 
 -- SOUND, test by test
 pub record IsSound (w : List ℕ) : Type 0 where
@@ -24,7 +24,7 @@ pub record IsSound (w : List ℕ) : Type 0 where
   pub few : countOf w ≤ capacity
   pub good : every entrySound (entries w) ≡ true
   pub differ : numbersDiffer (entries w) ≡ true
-  pub clear : every isZero (drop (1 + countOf w * width) w) ≡ true
+  pub clear : every isZero (drop (startOf (countOf w)) w) ≡ true
 
 abbrev tests : List ℕ → List Bool
 tests w =
@@ -32,7 +32,7 @@ tests w =
     leb (countOf w) capacity ∷
     every entrySound (entries w) ∷
     numbersDiffer (entries w) ∷
-    every isZero (drop (1 + countOf w * width) w) ∷
+    every isZero (drop (startOf (countOf w)) w) ∷
     []
 
 pub is-sound : (w : List ℕ) → soundWords w ≡ true → IsSound w
@@ -67,53 +67,52 @@ pub entries-length : (w : List ℕ) → length (entries w) ≡ countOf w
 unfolding entries
 entries-length w = upto-length (entryAt w) (countOf w)
 
--- A MARK SET
+-- A STATUS SET
 module _ (w : List ℕ) (s : IsSound w) (i : ℕ) (l : i < countOf w) where
   abbrev w′ : List ℕ
-  w′ = set w (1 + i * width + 61) 1
+  w′ = set w (startOf i + statusAt) 1
 
   same-count : countOf w′ ≡ countOf w
-  same-count = getD-set-other w (1 + i * width + 61) 0 1 0 (λ e. omega arith)
+  same-count = getD-set-other w (startOf i + statusAt) 0 1 0 (λ e. omega arith)
 
-  room : 1 + i * width + width ≤ length w
+  room : startOf i + width ≤ length w
   room = omega (arith, s .long, s .few)
 
-  marked-there : entryAt w′ i ≡ marked (entryAt w i)
-  marked-there =
-      ap entryOf (store-in w 1 i 61 (omega arith))
-      ∙ mark-set (block w i) (rw (length-take, length-drop) (omega (arith, room)))
+  cancelled-there : entryAt w′ i ≡ cancelledEntry (entryAt w i)
+  cancelled-there =
+      ap entryOf (store-in w 1 i statusAt (omega arith))
+      ∙ status-set (block w i) (rw (length-take, length-drop) (omega (arith, room)))
 
   kept : (j : ℕ) → (j < i) ⊎ (i < j) → entryAt w′ j ≡ entryAt w j
   kept j (inl h) =
-      let e : 1 + i * width + 61 ≡ 1 + j * width + ((i - j) * width + 61) = omega arith in
-      ap (λ p. entryAt (set w p 1) j) e ∙ ap entryOf (store-after w 1 j ((i - j) * width + 61) (omega arith))
-  kept j (inr h) = ap entryOf (store-before w 1 (1 + i * width + 61) j (omega arith))
+      let e : startOf i + statusAt ≡ startOf j + ((i - j) * width + statusAt) = omega arith in
+      ap (λ p. entryAt (set w p 1) j) e ∙ ap entryOf (store-after w 1 j ((i - j) * width + statusAt) (omega arith))
+  kept j (inr h) = ap entryOf (store-before w 1 (startOf i + statusAt) j (omega arith))
 
   abbrev Same : ℕ → Type 0
-  Same j = entryAt w′ j ≡ getD (set (entries w) i (marked (entryAt w i))) j noEntry
+  Same j = entryAt w′ j ≡ getD (set (entries w) i (cancelledEntry (entryAt w i))) j noEntry
 
   other : (j : ℕ) → (j ≡ i → ⊥) → j < countOf w → (j < i) ⊎ (i < j) → Same j
-  other j n m h = kept j h ∙ sym (getD-set-other (entries w) i j (marked (entryAt w i)) noEntry n ∙ entry-is w j m)
+  other j n m h = kept j h ∙ sym (getD-set-other (entries w) i j (cancelledEntry (entryAt w i)) noEntry n ∙ entry-is w j m)
 
   there : (j : ℕ) → j ≡ i → Same j
   there j e =
       ap (entryAt w′) e
-      ∙ (marked-there
-      ∙ sym (ap (λ k. getD (set (entries w) i (marked (entryAt w i))) k noEntry) e ∙ getD-set-same (entries w) i (marked (entryAt w i)) noEntry (rw (entries-length w) l)))
+      ∙ (cancelled-there
+      ∙ sym (ap (λ k. getD (set (entries w) i (cancelledEntry (entryAt w i))) k noEntry) e ∙ getD-set-same (entries w) i (cancelledEntry (entryAt w i)) noEntry (rw (entries-length w) l)))
 
   each : (j : ℕ) → j < countOf w → Same j
   each j m =
       ⊎-elim (λ h. other j (λ e. omega arith) m (inl h)) (⊎-elim (there j) (λ h. other j (λ e. omega arith) m (inr h))) (order j i)
 
-  pub entries-marked : entries w′ ≡ set (entries w) i (marked (entryAt w i))
-  entries-marked =
-      ext-getD noEntry (entries w′) (set (entries w) i (marked (entryAt w i)))
-      (entries-length w′ ∙ (same-count ∙ sym (length-set (entries w) i (marked (entryAt w i)) ∙ entries-length w)))
+  pub entries-cancelled : entries w′ ≡ set (entries w) i (cancelledEntry (entryAt w i))
+  entries-cancelled =
+      ext-getD noEntry (entries w′) (set (entries w) i (cancelledEntry (entryAt w i)))
+      (entries-length w′ ∙ (same-count ∙ sym (length-set (entries w) i (cancelledEntry (entryAt w i)) ∙ entries-length w)))
       (λ j m. entry-is w′ j (rw (← entries-length w′) m) ∙ each j (omega (arith, entries-length w′, same-count)))
 
 -- AN ENTRY ADDED
-module _ (w : List ℕ) (s : IsSound w) (t q : ℕ) (e : Entry) (more : countOf w < capacity) (la : length (e .asked) ≡ questionWidth)
-    (lp : length (e .parts) ≡ 8) (ls : length (e .spare) ≡ 2) where
+module _ (w : List ℕ) (s : IsSound w) (e : Entry) (more : countOf w < capacity) (h : Whole e) where
   abbrev n : ℕ
   n = countOf w
 
@@ -121,41 +120,41 @@ module _ (w : List ℕ) (s : IsSound w) (t q : ℕ) (e : Entry) (more : countOf 
   ws = wordsOf e
 
   back : (entryOf ws ≡ e) × (length ws ≡ width)
-  back = words-back e la lp ls
+  back = words-back e h
 
-  fits : 1 + n * width + width ≤ length w
+  fits : startOf n + width ≤ length w
   fits = omega (arith, s .long)
 
   abbrev pasted : List ℕ
-  pasted = paste w (1 + n * width) ws width
+  pasted = paste w (startOf n) ws width
 
-  pub added-count : countOf (added w t q e) ≡ n + 1
+  pub added-count : countOf (added w e) ≡ n + 1
   unfolding added
   added-count = getD-set-same pasted 0 (n + 1) 0 (rw (added-length w n ws fits (back .1)) (omega (arith, s .long)))
 
-  entry-before : (i : ℕ) → i < n → entryAt (added w t q e) i ≡ entryAt w i
+  entry-before : (i : ℕ) → i < n → entryAt (added w e) i ≡ entryAt w i
   unfolding added
   entry-before i l = ap entryOf (store-before pasted (n + 1) 0 i (omega arith) ∙ added-before w n ws fits (back .1) i l)
 
-  entry-there : entryAt (added w t q e) n ≡ e
+  entry-there : entryAt (added w e) n ≡ e
   unfolding added
   entry-there = ap entryOf (store-before pasted (n + 1) 0 n (omega arith) ∙ added-there w n ws fits (back .1)) ∙ back .0
 
-  pub entries-added : entries (added w t q e) ≡ entries w ++ (e ∷ [])
+  pub entries-added : entries (added w e) ≡ entries w ++ (e ∷ [])
   unfolding entries
   entries-added =
       rw added-count
-      (upto-more (entryAt (added w t q e)) n
-      ∙ ap₂ (λ xs x. xs ++ (x ∷ [])) (upto-same (entryAt (added w t q e)) (entryAt w) n entry-before) entry-there)
+      (upto-more (entryAt (added w e)) n
+      ∙ ap₂ (λ xs x. xs ++ (x ∷ [])) (upto-same (entryAt (added w e)) (entryAt w) n entry-before) entry-there)
 
-  pub added-long : length (added w t q e) ≡ bookLength
+  pub added-long : length (added w e) ≡ bookLength
   unfolding added
   added-long = length-set pasted 0 (n + 1) ∙ (added-length w n ws fits (back .1) ∙ s .long)
 
-  pub added-clear : every isZero (drop (1 + countOf (added w t q e) * width) (added w t q e)) ≡ true
+  pub added-clear : every isZero (drop (startOf (countOf (added w e))) (added w e)) ≡ true
   unfolding added
   added-clear =
-      let c : 1 + countOf (set pasted 0 (n + 1)) * width ≡ (1 + n * width) + width = omega (arith, added-count) in
-      let d : drop (1 + n * width + width) (set pasted 0 (n + 1)) ≡ drop width (drop (1 + n * width) w) =
-      drop-set-lt (1 + n * width + width) pasted 0 (n + 1) (omega arith) ∙ (added-behind w n ws fits (back .1) ∙ sym (drop-drop width (1 + n * width) w)) in
-      rw (c, d) (every-drop isZero (drop (1 + n * width) w) width (s .clear))
+      let c : startOf (countOf (set pasted 0 (n + 1))) ≡ startOf n + width = omega (arith, added-count) in
+      let d : drop (startOf n + width) (set pasted 0 (n + 1)) ≡ drop width (drop (startOf n) w) =
+      drop-set-lt (startOf n + width) pasted 0 (n + 1) (omega arith) ∙ (added-behind w n ws fits (back .1) ∙ sym (drop-drop width (startOf n) w)) in
+      rw (c, d) (every-drop isZero (drop (startOf n) w) width (s .clear))

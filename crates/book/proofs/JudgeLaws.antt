@@ -23,34 +23,35 @@ use Rattle.bundle.specs.Records.{recordsOf}
 use Rattle.fares.specs.Fare.{partsOf, fareChecks, quoted, fareOf}
 use Rattle.fares.specs.declared.Question.{Question}
 use Rattle.fares.specs.declared.Pricing.the-variants.{Priced, Refused as NoFare}
-use Rattle.book.specs.Words.{Entry, noEntry, entryAt, capacity, width, countOf, entries, questionWords, booking}
-use Rattle.book.specs.Sound.{numberInLimits, sameNumber, placeOf, soundWords}
-use Rattle.book.specs.Sales.{refusal, receipt, unlessFault, isClean, place, isPresent, present, saleChecks, saleAnswer, isBooked, added, saleWords, cancelChecks, cancelAnswer, isCancelled, cancelWords, againAnswer, firstAnswer}
+use Rattle.book.specs.Words.{Entry, noEntry, entryAt, capacity, width, countOf, entries, questionWords, booking, questionWidth, askedAt, partsAt, statusAt, startOf}
+use Rattle.book.specs.Sound.{numberInLimits, hasNumber, heldAt, soundWords}
+use Rattle.book.specs.Sales.{noReceipt, receipt, unlessFault, isClean, place, isPresent, present, saleChecks, saleAnswer, isBooked, added, saleWords, cancelChecks, cancelAnswer, isCancelled, cancelWords}
 use Rattle.book.specs.declared.Outcome.{Outcome}
 use Rattle.book.specs.declared.Outcome.the-variants.{Booked, AlreadyBooked, Cancelled, AlreadyCancelled}
 use Rattle.book.specs.declared.Receipt.{Receipt}
+use Rattle.book.specs.Helpers.{heldBefore, againAnswer, firstAnswer}
 use Rattle.book.proofs.Outcome.{the-type}
 use Rattle.book.proofs.Blocks.{block}
 use Rattle.book.proofs.EntryLaws.{entry-is, entries-length}
 
 -- some words of an entry, as words of the book
-pub sub-block : (w : List ℕ) (i k m : ℕ) → k + m ≤ width → take m (drop k (block w i)) ≡ take m (drop (1 + i * width + k) w)
+pub sub-block : (w : List ℕ) (i k m : ℕ) → k + m ≤ width → take m (drop k (block w i)) ≡ take m (drop (startOf i + k) w)
 sub-block w i k m l =
     let e : width ≡ k + (width - k) = omega arith in
-    let r = part-rest k (width - k) (drop (1 + i * width) w) in
-    ap (λ n. take m (drop k (take n (drop (1 + i * width) w)))) e
-    ∙ (ap (take m) r ∙ (take-take m (width - k) (drop k (drop (1 + i * width) w)) (omega arith) ∙ ap (take m) (drop-drop k (1 + i * width) w)))
+    let r = part-rest k (width - k) (drop (startOf i) w) in
+    ap (λ n. take m (drop k (take n (drop (startOf i) w)))) e
+    ∙ (ap (take m) r ∙ (take-take m (width - k) (drop k (drop (startOf i) w)) (omega arith) ∙ ap (take m) (drop-drop k (startOf i) w)))
 
 -- the place of a number, by the entries at their places
-pub place-is : (w : List ℕ) (t s : ℕ) → placeOf t s (entries w) ≡ least (λ i. sameNumber t s (entryAt w i)) (countOf w)
-unfolding placeOf
+pub place-is : (w : List ℕ) (t s : ℕ) → heldAt t s (entries w) ≡ heldBefore w (countOf w) t s
+unfolding heldAt
 place-is w t s =
     rw (entries-length w)
-    (alike (λ i. sameNumber t s (getD (entries w) i noEntry)) (λ i. sameNumber t s (entryAt w i)) (countOf w) (λ i l. ap (sameNumber t s) (entry-is w i l)))
+    (alike (λ i. hasNumber t s (getD (entries w) i noEntry)) (λ i. hasNumber t s (entryAt w i)) (countOf w) (λ i l. ap (hasNumber t s) (entry-is w i l)))
 
 module _ (w : List ℕ) (t s : ℕ) where
   abbrev at : ℕ
-  at = least (λ i. sameNumber t s (entryAt w i)) (countOf w)
+  at = heldBefore w (countOf w) t s
 
   is-present : at < countOf w → isPresent w t s ≡ true
   is-present l = rw (place-is w t s, entries-length w) (lt-ltb at (countOf w) l)
@@ -62,17 +63,17 @@ module _ (w : List ℕ) (t s : ℕ) where
   the-present l = ap (λ i. getD (entries w) i noEntry) (place-is w t s) ∙ entry-is w at l
 
   module _ (b : List ℕ) (q : Question) where
-    pub sale-unsound : soundWords w ≡ false → saleAnswer w t s b q ≡ refusal 21 0 0
+    pub sale-unsound : soundWords w ≡ false → saleAnswer w t s b q ≡ noReceipt 21 0 0
     unfolding saleAnswer saleChecks firstFault
     sale-unsound e = rw e
 
     module _ (ok : soundWords w ≡ true) where
-      pub sale-no-number : numberInLimits t s ≡ false → saleAnswer w t s b q ≡ refusal 22 0 0
+      pub sale-no-number : numberInLimits t s ≡ false → saleAnswer w t s b q ≡ noReceipt 22 0 0
       unfolding saleAnswer saleChecks firstFault
       sale-no-number e = rw (ok, e)
 
       module _ (n : numberInLimits t s ≡ true) where
-        by-question : (d : Bool) (i : ℕ) (r : Receipt) → unlessFault (firstFault (check (not d) 23 i 0 ∷ [])) r ≡ cond d r (refusal 23 i 0)
+        by-question : (d : Bool) (i : ℕ) (r : Receipt) → unlessFault (firstFault (check (not d) 23 i 0 ∷ [])) r ≡ cond d r (noReceipt 23 i 0)
         unfolding firstFault
         by-question true i r = refl
         by-question false i r = refl
@@ -81,13 +82,13 @@ module _ (w : List ℕ) (t s : ℕ) where
         unfolding saleAnswer saleChecks firstFault againAnswer
         present-again l =
             rw (ok, n, l)
-            (by-question (same (present w t s .asked) (questionWords q)) (place w t s) (receipt (AlreadyBooked (present w t s .mark)) (present w t s .parts)))
+            (by-question (same (present w t s .asked) (questionWords q)) (place w t s) (receipt (AlreadyBooked (present w t s .status)) (present w t s .parts)))
 
         pub sale-again : at < countOf w → saleAnswer w t s b q ≡ againAnswer (entryAt w at) at q
         sale-again l = present-again (is-present l) ∙ ap₂ (λ e i. againAnswer e i q) (the-present l) (place-is w t s)
 
         module _ (l : countOf w ≤ at) where
-          pub sale-full : capacity ≤ countOf w → saleAnswer w t s b q ≡ refusal 24 0 0
+          pub sale-full : capacity ≤ countOf w → saleAnswer w t s b q ≡ noReceipt 24 0 0
           unfolding saleAnswer saleChecks firstFault
           sale-full f = rw (ok, n, is-absent l, entries-length w, le-leb capacity (countOf w) f)
 
@@ -95,28 +96,28 @@ module _ (w : List ℕ) (t s : ℕ) where
           unfolding saleAnswer saleChecks firstFault firstAnswer
           sale-first f = rw (ok, n, is-absent l, entries-length w, lt-leb capacity (countOf w) f)
 
-  pub cancel-unsound : soundWords w ≡ false → cancelAnswer w t s ≡ refusal 21 0 0
+  pub cancel-unsound : soundWords w ≡ false → cancelAnswer w t s ≡ noReceipt 21 0 0
   unfolding cancelAnswer cancelChecks firstFault
   cancel-unsound e = rw e
 
   module _ (ok : soundWords w ≡ true) where
-    pub cancel-no-number : numberInLimits t s ≡ false → cancelAnswer w t s ≡ refusal 22 0 0
+    pub cancel-no-number : numberInLimits t s ≡ false → cancelAnswer w t s ≡ noReceipt 22 0 0
     unfolding cancelAnswer cancelChecks firstFault
     cancel-no-number e = rw (ok, e)
 
     module _ (n : numberInLimits t s ≡ true) where
-      pub cancel-unknown : countOf w ≤ at → cancelAnswer w t s ≡ refusal 25 0 0
+      pub cancel-unknown : countOf w ≤ at → cancelAnswer w t s ≡ noReceipt 25 0 0
       unfolding cancelAnswer cancelChecks firstFault
       cancel-unknown l = rw (ok, n, is-absent l)
 
       pub cancel-known : at < countOf w
-          → cancelAnswer w t s ≡ receipt (cond (eqb (entryAt w at .mark) 0) Cancelled AlreadyCancelled) (entryAt w at .parts)
+          → cancelAnswer w t s ≡ receipt (cond (eqb (entryAt w at .status) 0) Cancelled AlreadyCancelled) (entryAt w at .parts)
       unfolding cancelAnswer cancelChecks firstFault
       cancel-known l = rw (ok, n, is-present l, the-present l)
 
 -- a quote that is refused, and one that is priced
 module _ (b : List ℕ) (q : Question) where
-  by-finding : (f : Finding) (parts : List ℕ) (k p d : ℕ) → quoted f parts .outcome ≡ NoFare k p d → unlessFault f (receipt Booked parts) ≡ refusal k p d
+  by-finding : (f : Finding) (parts : List ℕ) (k p d : ℕ) → quoted f parts .outcome ≡ NoFare k p d → unlessFault f (receipt Booked parts) ≡ noReceipt k p d
   by-finding clean parts k p d e = let z : _≡_ {A = ℕ} 0 1 = cc in absurd (omega arith)
   by-finding (fault x y z) parts k p d e =
       let i : x ≡ k = cc in
@@ -124,7 +125,7 @@ module _ (b : List ℕ) (q : Question) where
       let l : z ≡ d = cc in
       rw (i, j, l)
 
-  pub quote-refused : (k p d : ℕ) → fareOf b q .outcome ≡ NoFare k p d → firstAnswer b q ≡ refusal k p d
+  pub quote-refused : (k p d : ℕ) → fareOf b q .outcome ≡ NoFare k p d → firstAnswer b q ≡ noReceipt k p d
   unfolding fareOf firstAnswer
   quote-refused k p d e = by-finding (firstFault (fareChecks b q)) (partsOf (recordsOf b) q) k p d e
 
@@ -136,21 +137,21 @@ module _ (b : List ℕ) (q : Question) where
   unfolding fareOf firstAnswer
   quote-priced e = by-price (firstFault (fareChecks b q)) (partsOf (recordsOf b) q) e
 
--- an entry's question, parts and mark, as they stand in the book
-pub asked-lent : (w : List ℕ) (i : ℕ) → take ((1 + i * width + 53) - (1 + i * width + 2)) (drop (1 + i * width + 2) w) ≡ entryAt w i .asked
+-- an entry's question, parts and status, as they stand in the book
+pub asked-lent : (w : List ℕ) (i : ℕ) → take ((startOf i + partsAt) - (startOf i + askedAt)) (drop (startOf i + askedAt) w) ≡ entryAt w i .asked
 asked-lent w i =
-    let n : (1 + i * width + 53) - (1 + i * width + 2) ≡ 51 = omega arith in
-    rw n (sym (sub-block w i 2 51 (omega arith)))
+    let n : (startOf i + partsAt) - (startOf i + askedAt) ≡ questionWidth = omega arith in
+    rw n (sym (sub-block w i askedAt questionWidth (omega arith)))
 
-pub parts-lent : (w : List ℕ) (i : ℕ) → take 8 (drop (1 + i * width + 53) w) ≡ entryAt w i .parts
-parts-lent w i = sym (sub-block w i 53 8 (omega arith))
+pub parts-lent : (w : List ℕ) (i : ℕ) → take 8 (drop (startOf i + partsAt) w) ≡ entryAt w i .parts
+parts-lent w i = sym (sub-block w i partsAt 8 (omega arith))
 
 module _ (e : Entry) (i : ℕ) (q : Question) where
-  pub again-other : same (e .asked) (questionWords q) ≡ false → againAnswer e i q ≡ refusal 23 i 0
+  pub again-other : same (e .asked) (questionWords q) ≡ false → againAnswer e i q ≡ noReceipt 23 i 0
   unfolding againAnswer
   again-other d = rw d
 
-  pub again-same : same (e .asked) (questionWords q) ≡ true → againAnswer e i q ≡ receipt (AlreadyBooked (e .mark)) (e .parts)
+  pub again-same : same (e .asked) (questionWords q) ≡ true → againAnswer e i q ≡ receipt (AlreadyBooked (e .status)) (e .parts)
   unfolding againAnswer
   again-same d = rw d
 
@@ -160,7 +161,7 @@ module _ (w : List ℕ) (t s : ℕ) (b : List ℕ) (q : Question) where
   found = firstFault (saleChecks w t s b q)
 
   abbrev there : Receipt
-  there = receipt (AlreadyBooked (present w t s .mark)) (present w t s .parts)
+  there = receipt (AlreadyBooked (present w t s .status)) (present w t s .parts)
 
   abbrev fresh : Receipt
   fresh = receipt Booked (partsOf (recordsOf b) q)
@@ -202,7 +203,7 @@ module _ (w : List ℕ) (t s : ℕ) (b : List ℕ) (q : Question) where
     unfolding saleAnswer
     booked-parts = rw (told .0, told .1)
 
-    pub booked-writes : saleWords w t s b q ≡ added w t s (booking t s q (saleAnswer w t s b q .parts))
+    pub booked-writes : saleWords w t s b q ≡ added w (booking t s q (saleAnswer w t s b q .parts))
     unfolding saleAnswer saleWords isBooked
     booked-writes = rw (told .0, told .1)
 
@@ -210,8 +211,8 @@ module _ (w : List ℕ) (t s : ℕ) where
   abbrev checked : Finding
   checked = firstFault (cancelChecks w t s)
 
-  abbrev marks : Bool
-  marks = eqb (present w t s .mark) 0
+  abbrev isLive : Bool
+  isLive = eqb (present w t s .status) 0
 
   abbrev answer : Finding → Bool → Receipt
   answer f m = unlessFault f (receipt (cond m Cancelled AlreadyCancelled) (present w t s .parts))
@@ -228,14 +229,14 @@ module _ (w : List ℕ) (t s : ℕ) where
 
   pub not-cancelled-stays : (cancelAnswer w t s .outcome ≡ Cancelled → ⊥) → cancelWords w t s ≡ w
   unfolding cancelAnswer cancelWords isCancelled
-  not-cancelled-stays n = rw (cancelled-not checked marks n)
+  not-cancelled-stays n = rw (cancelled-not checked isLive n)
 
   module _ (e : cancelAnswer w t s .outcome ≡ Cancelled) where
-    told-cancel : (checked ≡ clean) × (marks ≡ true)
+    told-cancel : (checked ≡ clean) × (isLive ≡ true)
     unfolding cancelAnswer
-    told-cancel = cancelled-only checked marks e
+    told-cancel = cancelled-only checked isLive e
 
-    pub cancelled-sound : (soundWords w ≡ true) × (numberInLimits t s ≡ true) × (least (λ i. sameNumber t s (entryAt w i)) (countOf w) < countOf w)
+    pub cancelled-sound : (soundWords w ≡ true) × (numberInLimits t s ≡ true) × (heldBefore w (countOf w) t s < countOf w)
     unfolding cancelChecks
     cancelled-sound =
         let a = one-clean (not (soundWords w)) 21 0 0 _ (told-cancel .0) in
@@ -244,7 +245,7 @@ module _ (w : List ℕ) (t s : ℕ) where
         let p = ltb-true (place w t s) (length (entries w)) (not-false (isPresent w t s) (d .0)) in
         (not-false (soundWords w) (a .0), not-false (numberInLimits t s) (n .0), rw (place-is w t s, entries-length w) at p)
 
-    pub cancelled-writes : cancelWords w t s ≡ set w (1 + least (λ i. sameNumber t s (entryAt w i)) (countOf w) * width + 61) 1
+    pub cancelled-writes : cancelWords w t s ≡ set w (startOf (heldBefore w (countOf w) t s) + statusAt) 1
     unfolding cancelWords isCancelled
     cancelled-writes = rw (told-cancel .0, told-cancel .1, place-is w t s)
 

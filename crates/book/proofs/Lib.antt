@@ -1,8 +1,6 @@
 pub mod Blocks
 pub mod EntryLaws
-pub mod QuestionLaws
-pub mod SaidLaws
-pub mod BookingLaws
+pub mod QuestionWords
 pub mod SoundLaws
 pub mod RankLaws
 pub mod SumLaws

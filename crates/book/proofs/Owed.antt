@@ -11,20 +11,20 @@ use Rattle.common.proofs.Sums.{sum-append}
 use Rattle.bundle.specs.Records.{recordsOf}
 use Rattle.fares.specs.Fare.{partsOf}
 use Rattle.fares.specs.declared.Question.{Question}
-use Rattle.book.specs.Words.{Entry, entries, countOf, width, bookLength, booking}
-use Rattle.book.specs.Sound.{isZero, sameNumber, numbersDiffer, soundWords}
+use Rattle.book.specs.Words.{Entry, entries, countOf, width, bookLength, booking, startOf}
+use Rattle.book.specs.Sound.{isZero, hasNumber, numbersDiffer, soundWords}
 use Rattle.book.specs.Sales.{saleWords, cancelWords}
 use Rattle.book.specs.Balances.{liveAmount, balanceOf}
 use Rattle.book.specs.History.{Number, Op, sale, cancel, emptyBook, after, cancelledIn, books, owed}
-use Rattle.book.proofs.Blocks.{marked}
+use Rattle.book.proofs.Blocks.{cancelledEntry}
 use Rattle.common.specs.Least.{least}
 use Rattle.book.proofs.EntryLaws.{IsSound, sound-is, every-drop}
 use Rattle.book.proofs.Kept.{cancelling}
-use Rattle.book.proofs.SaleLaws.{numberOf, numbersOf, all-zeros, not-booked, sale-entries, sale-sound, cancel-after}
+use Rattle.book.proofs.SaleLaws.{saleNumberOf, saleNumbersOf, all-zeros, not-booked, sale-entries, sale-sound, cancel-after}
 
 -- what the entries of a book come to once the operations have gone over them: those that are live and that no operation cancels
 abbrev lasting : (List ℕ → List ℕ → ℕ) → List Op → Entry → ℕ
-lasting f ops e = cond (cancelledIn (numberOf e) ops) 0 (liveAmount f e)
+lasting f ops e = cond (cancelledIn (saleNumberOf e) ops) 0 (liveAmount f e)
 
 rest : (List ℕ → List ℕ → ℕ) → List Op → List Entry → ℕ
 rest f ops es = sum (map (lasting f ops) es)
@@ -39,25 +39,25 @@ same-both : (b : Bool) (x : ℕ) → cond b x x ≡ x
 same-both true x = refl
 same-both false x = refl
 
-same-number : (b : Bool) (e : Entry) → numberOf (cond b (marked e) e) ≡ numberOf e
+same-number : (b : Bool) (e : Entry) → saleNumberOf (cond b (cancelledEntry e) e) ≡ saleNumberOf e
 same-number true e = refl
 same-number false e = refl
 
 -- an entry that is cancelled now is one that is cancelled by an operation
-lasting-cancelled : (f : List ℕ → List ℕ → ℕ) (ops : List Op) (n : Number) (e : Entry) (b : Bool) → sameNumber (n .till) (n .sequence) e ≡ b
-    → lasting f ops (cond b (marked e) e) ≡ cond (b || cancelledIn (numberOf e) ops) 0 (liveAmount f e)
-lasting-cancelled f ops n e true h = same-both (cancelledIn (numberOf e) ops) 0
+lasting-cancelled : (f : List ℕ → List ℕ → ℕ) (ops : List Op) (n : Number) (e : Entry) (b : Bool) → hasNumber (n .till) (n .sequence) e ≡ b
+    → lasting f ops (cond b (cancelledEntry e) e) ≡ cond (b || cancelledIn (saleNumberOf e) ops) 0 (liveAmount f e)
+lasting-cancelled f ops n e true h = same-both (cancelledIn (saleNumberOf e) ops) 0
 lasting-cancelled f ops n e false h = refl
 
 rest-cancelled : (f : List ℕ → List ℕ → ℕ) (ops : List Op) (n : Number) (es : List Entry) → rest f ops (map (cancelling (n .till) (n .sequence)) es) ≡ rest f (cancel n ∷ ops) es
 unfolding rest sum cancelledIn
 rest-cancelled f ops n [] = refl
 rest-cancelled f ops n (e ∷ es) =
-    ap₂ _+_ (lasting-cancelled f ops n e (sameNumber (n .till) (n .sequence) e) refl) (rest-cancelled f ops n es)
+    ap₂ _+_ (lasting-cancelled f ops n e (hasNumber (n .till) (n .sequence) e) refl) (rest-cancelled f ops n es)
 
-numbers-stay : (t s : ℕ) (es : List Entry) → numbersOf (map (cancelling t s) es) ≡ numbersOf es
+numbers-stay : (t s : ℕ) (es : List Entry) → saleNumbersOf (map (cancelling t s) es) ≡ saleNumbersOf es
 numbers-stay t s [] = refl
-numbers-stay t s (e ∷ es) = ap₂ _∷_ (same-number (sameNumber t s e) e) (numbers-stay t s es)
+numbers-stay t s (e ∷ es) = ap₂ _∷_ (same-number (hasNumber t s e) e) (numbers-stay t s es)
 
 -- a sale cancels nothing
 rest-sale : (f : List ℕ → List ℕ → ℕ) (ops : List Op) (n : Number) (b : List ℕ) (q : Question) (es : List Entry) → rest f (sale n b q ∷ ops) es ≡ rest f ops es
@@ -70,7 +70,7 @@ rest-none f es = refl
 
 -- THE INDUCTION over the operations, from any sound book
 abbrev Told : (List ℕ → List ℕ → ℕ) → List Op → List ℕ → Type 0
-Told f ops w = (balanceOf f (entries (after w ops)) ≡ rest f ops (entries w) + owed f (numbersOf (entries w)) ops) × IsSound (after w ops)
+Told f ops w = (balanceOf f (entries (after w ops)) ≡ rest f ops (entries w) + owed f (saleNumbersOf (entries w)) ops) × IsSound (after w ops)
 
 module _ (f : List ℕ → List ℕ → ℕ) (ops : List Op) (w : List ℕ) (s : IsSound w) (n : Number) (b : List ℕ) (q : Question)
     (ih : (x : List ℕ) → IsSound x → Told f ops x) where
@@ -80,7 +80,7 @@ module _ (f : List ℕ → List ℕ → ℕ) (ops : List Op) (w : List ℕ) (s :
   abbrev entry : Entry
   entry = booking (n .till) (n .sequence) q (partsOf (recordsOf b) q)
 
-  by-sale : (x : Bool) → books (numbersOf es) n b q ≡ x → Told f (sale n b q ∷ ops) w
+  by-sale : (x : Bool) → books (saleNumbersOf es) n b q ≡ x → Told f (sale n b q ∷ ops) w
   unfolding after owed
   by-sale false e =
       let h = ih w s in
@@ -89,7 +89,7 @@ module _ (f : List ℕ → List ℕ → ℕ) (ops : List Op) (w : List ℕ) (s :
   by-sale true e =
       let h = ih (saleWords w (n .till) (n .sequence) b q) (sale-sound w s n b q e) in
       let k = sale-entries w s n b q e in
-      let m : numbersOf (es ++ (entry ∷ [])) ≡ numbersOf es ++ (n ∷ []) = map-append numberOf es (entry ∷ []) in
+      let m : saleNumbersOf (es ++ (entry ∷ [])) ≡ saleNumbersOf es ++ (n ∷ []) = map-append saleNumberOf es (entry ∷ []) in
       rw e (
         h .0 ∙ (rw (k, m, rest-more f ops es entry) (omega (arith, rest-sale f ops n b q es))),
         h .1,
@@ -104,7 +104,7 @@ told-so-far f (cancel n ∷ ops) w s =
       ih .0 ∙ rw (c .0, numbers-stay (n .till) (n .sequence) (entries w), rest-cancelled f ops n (entries w)),
       ih .1,
     )
-told-so-far f (sale n b q ∷ ops) w s = by-sale f ops w s n b q (told-so-far f ops) (books (numbersOf (entries w)) n b q) refl
+told-so-far f (sale n b q ∷ ops) w s = by-sale f ops w s n b q (told-so-far f ops) (books (saleNumbersOf (entries w)) n b q) refl
 
 -- THE EMPTY BOOK is sound and has no entry
 module _ (m : ℕ) (e : m ≡ bookLength) where
@@ -126,7 +126,7 @@ module _ (m : ℕ) (e : m ≡ bookLength) where
         few = omega (arith, zero-count);
         good = rw zero-entries;
         differ = rw zero-entries;
-        clear = every-drop isZero zeros (1 + countOf zeros * width) (all-zeros m);
+        clear = every-drop isZero zeros (startOf (countOf zeros)) (all-zeros m);
       }
 
 empty-entries : entries emptyBook ≡ []

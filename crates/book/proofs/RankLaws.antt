@@ -12,9 +12,9 @@ use lib.ListN.{getD}
 use borrow.Author.Tests.{eqb-true}
 use Rattle.common.proofs.Least.{none-finds}
 use Rattle.common.proofs.Tests.{both-true, side}
-use Rattle.book.specs.Words.{width, entryAt}
-use Rattle.book.specs.Sound.{sameNumber}
-use Rattle.book.specs.Ranks.{rank, RanksUpTo, repeatsEarlier}
+use Rattle.book.specs.Words.{width, entryAt, startOf}
+use Rattle.book.specs.Sound.{hasNumber}
+use Rattle.book.specs.Helpers.{rank, RanksUpTo, repeatsEarlier}
 use Rattle.book.proofs.Blocks.{word-at}
 
 module _ (w : List ℕ) where
@@ -22,11 +22,11 @@ module _ (w : List ℕ) where
   rankOf i = rank (entryAt w i .till) (entryAt w i .sequence)
 
   -- by the words of the entry
-  pub rank-words : (i : ℕ) → rank (getD w (1 + i * width) 0) (getD w (1 + i * width + 1) 0) ≡ rankOf i
+  pub rank-words : (i : ℕ) → rank (getD w (startOf i) 0) (getD w (startOf i + 1) 0) ≡ rankOf i
   rank-words i = rw (word-at w i 0 (omega arith), word-at w i 1 (omega arith), add-zero)
 
   -- an entry that ranks lower has another number
-  lower-differs : (i j : ℕ) → rankOf j < rankOf i → (b : Bool) → sameNumber (entryAt w i .till) (entryAt w i .sequence) (entryAt w j) ≡ b → b ≡ false
+  lower-differs : (i j : ℕ) → rankOf j < rankOf i → (b : Bool) → hasNumber (entryAt w i .till) (entryAt w i .sequence) (entryAt w j) ≡ b → b ≡ false
   lower-differs i j h false e = refl
   lower-differs i j h true e =
       let d = both-true (eqb (entryAt w j .till) (entryAt w i .till)) (eqb (entryAt w j .sequence) (entryAt w i .sequence)) e in
@@ -36,7 +36,7 @@ module _ (w : List ℕ) where
 
   pub above-none : (i top : ℕ) → RanksUpTo w i top → top < rankOf i → repeatsEarlier w i ≡ false
   above-none i top f h =
-      none-finds (λ j. sameNumber (entryAt w i .till) (entryAt w i .sequence) (entryAt w j)) i (λ j l. lower-differs i j (omega (arith, f j l, h)) _ refl)
+      none-finds (λ j. hasNumber (entryAt w i .till) (entryAt w i .sequence) (entryAt w j)) i (λ j l. lower-differs i j (omega (arith, f j l, h)) _ refl)
 
   pub ranks-none : (top : ℕ) → RanksUpTo w 0 top
   ranks-none top j l = absurd (omega arith)

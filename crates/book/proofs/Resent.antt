@@ -14,39 +14,40 @@ use Rattle.bundle.specs.Records.{recordsOf}
 use Rattle.fares.specs.Fare.{partsOf}
 use Rattle.fares.specs.declared.Question.{Question}
 use Rattle.book.specs.Words.{Entry, noEntry, entries, questionWords, booking}
-use Rattle.book.specs.Sound.{sameNumber}
-use Rattle.book.specs.Sales.{isPresent, present, place, saleAnswer, saleWords, cancelWords, isBooked, againAnswer, receipt, refusal}
+use Rattle.book.specs.Sound.{hasNumber}
+use Rattle.book.specs.Sales.{isPresent, present, place, saleAnswer, saleWords, cancelWords, isBooked, receipt, noReceipt}
 use Rattle.book.specs.declared.Outcome.the-variants.{Booked, AlreadyBooked}
 use Rattle.book.specs.History.{Number, Op, sale, cancel, emptyBook, after, cancelledIn, books}
-use Rattle.book.proofs.Blocks.{marked}
+use Rattle.book.specs.Helpers.{againAnswer}
+use Rattle.book.proofs.Blocks.{cancelledEntry}
 use Rattle.book.proofs.EntryLaws.{IsSound, sound-is}
 use Rattle.book.proofs.Kept.{cancelling, mapped-at}
-use Rattle.book.proofs.SaleLaws.{numberOf, numbersOf, books-is, not-booked, sale-entries, sale-sound, cancel-after, books-number, at-place}
+use Rattle.book.proofs.SaleLaws.{saleNumberOf, saleNumbersOf, books-is, not-booked, sale-entries, sale-sound, cancel-after, books-number, at-place}
 use Rattle.book.proofs.Owed.{stays-sound, empty-sound}
 use Rattle.book.proofs.JudgeLaws.{present-again, booked-is, again-same, again-other}
 
--- an entry once booked: where it is, and marked if an operation cancels its number
+-- an entry once booked: where it is, and cancelled if an operation cancels its number
 abbrev later : Entry → List Op → Entry
-later e ops = cond (cancelledIn (numberOf e) ops) (marked e) e
+later e ops = cond (cancelledIn (saleNumberOf e) ops) (cancelledEntry e) e
 
 pub record Stands (w : List ℕ) (i : ℕ) (e : Entry) : Type 0 where
   pub inside : i < length (entries w)
   pub is : getD (entries w) i noEntry ≡ e
 
-marked-twice : (c d : Bool) (e : Entry) → cond d (marked (cond c (marked e) e)) (cond c (marked e) e) ≡ cond (c || d) (marked e) e
-marked-twice true true e = refl
-marked-twice true false e = refl
-marked-twice false true e = refl
-marked-twice false false e = refl
+cancelled-twice : (c d : Bool) (e : Entry) → cond d (cancelledEntry (cond c (cancelledEntry e) e)) (cond c (cancelledEntry e) e) ≡ cond (c || d) (cancelledEntry e) e
+cancelled-twice true true e = refl
+cancelled-twice true false e = refl
+cancelled-twice false true e = refl
+cancelled-twice false false e = refl
 
-same-number : (c : Bool) (e : Entry) → numberOf (cond c (marked e) e) ≡ numberOf e
+same-number : (c : Bool) (e : Entry) → saleNumberOf (cond c (cancelledEntry e) e) ≡ saleNumberOf e
 same-number true e = refl
 same-number false e = refl
 
 -- a sale leaves it there
 module _ (ops : List Op) (w : List ℕ) (s : IsSound w) (i : ℕ) (e : Entry) (h : Stands w i e) (n : Number) (b : List ℕ) (q : Question)
     (ih : (x : List ℕ) → IsSound x → (k : ℕ) (y : Entry) → Stands x k y → Stands (after x ops) k (later y ops)) where
-  by-sale : (x : Bool) → books (numbersOf (entries w)) n b q ≡ x → Stands (after (saleWords w (n .till) (n .sequence) b q) ops) i (later e ops)
+  by-sale : (x : Bool) → books (saleNumbersOf (entries w)) n b q ≡ x → Stands (after (saleWords w (n .till) (n .sequence) b q) ops) i (later e ops)
   by-sale false z = rw (not-booked w s n b q z) (ih w s i e h)
   by-sale true z =
       let k = sale-entries w s n b q z in
@@ -71,10 +72,10 @@ persists (cancel n ∷ ops) w s i e h =
     } in
     let r = persists ops (cancelWords w (n .till) (n .sequence)) (c .1) i x g in
     let m : later x ops ≡ later e (cancel n ∷ ops) =
-    ap (λ k. cond (cancelledIn k ops) (marked x) x) (same-number (sameNumber (n .till) (n .sequence) e) e)
-    ∙ marked-twice (sameNumber (n .till) (n .sequence) e) (cancelledIn (numberOf e) ops) e in
+    ap (λ k. cond (cancelledIn k ops) (cancelledEntry x) x) (same-number (hasNumber (n .till) (n .sequence) e) e)
+    ∙ cancelled-twice (hasNumber (n .till) (n .sequence) e) (cancelledIn (saleNumberOf e) ops) e in
     rw (← m) r
-persists (sale n b q ∷ ops) w s i e h = by-sale ops w s i e h n b q (persists ops) (books (numbersOf (entries w)) n b q) refl
+persists (sale n b q ∷ ops) w s i e h = by-sale ops w s i e h n b q (persists ops) (books (saleNumbersOf (entries w)) n b q) refl
 
 -- one history after another
 after-append : (w : List ℕ) (a b : List Op) → after w (a ++ b) ≡ after (after w a) b
@@ -102,7 +103,7 @@ module _ (first : List Op) (n : Number) (b : List ℕ) (q : Question) (more : Li
     at-first : IsSound start
     at-first = stays-sound first emptyBook empty-sound
 
-    booked : books (numbersOf (entries start)) n b q ≡ true
+    booked : books (saleNumbersOf (entries start)) n b q ≡ true
     booked = sym (books-is start at-first n b q) ∙ booked-is start (n .till) (n .sequence) b q e
 
     abbrev sold : List ℕ
@@ -129,10 +130,10 @@ module _ (first : List Op) (n : Number) (b : List ℕ) (q : Question) (more : Li
     stands : Stands now i (later entry more)
     stands = rw now-is (persists more sold sold-sound i entry made)
 
-    its-number : sameNumber (n .till) (n .sequence) (later entry more) ≡ true
+    its-number : hasNumber (n .till) (n .sequence) (later entry more) ≡ true
     its-number = numbered (cancelledIn n more)
       where
-        numbered : (c : Bool) → sameNumber (n .till) (n .sequence) (cond c (marked entry) entry) ≡ true
+        numbered : (c : Bool) → hasNumber (n .till) (n .sequence) (cond c (cancelledEntry entry) entry) ≡ true
         numbered true = rw (eq-eqb (n .till) (n .till) refl, eq-eqb (n .sequence) (n .sequence) refl)
         numbered false = rw (eq-eqb (n .till) (n .till) refl, eq-eqb (n .sequence) (n .sequence) refl)
 
@@ -147,16 +148,16 @@ module _ (first : List Op) (n : Number) (b : List ℕ) (q : Question) (more : Li
         present-again now (n .till) (n .sequence) b′ q′ (sound-is now now-sound) (books-number start at-first n b q booked) (found .0)
         ∙ ap₂ (λ x k. againAnswer x k q′) the-entry (found .1)
 
-    asked-is : (c : Bool) → cond c (marked entry) entry .asked ≡ questionWords q
+    asked-is : (c : Bool) → cond c (cancelledEntry entry) entry .asked ≡ questionWords q
     asked-is true = refl
     asked-is false = refl
 
-    kept : (c : Bool) → receipt (AlreadyBooked (cond c (marked entry) entry .mark)) (cond c (marked entry) entry .parts)
+    kept : (c : Bool) → receipt (AlreadyBooked (cond c (cancelledEntry entry) entry .status)) (cond c (cancelledEntry entry) entry .parts)
         ≡ receipt (AlreadyBooked (cond c 1 0)) (partsOf (recordsOf b) q)
     kept true = refl
     kept false = refl
 
-    -- told its first parts and its mark if the question is the same,
+    -- told its first parts and its status if the question is the same,
     pub told-first : (b′ : List ℕ) (q′ : Question) → same (questionWords q) (questionWords q′) ≡ true
         → saleAnswer now (n .till) (n .sequence) b′ q′ ≡ receipt (AlreadyBooked (cond (cancelledIn n more) 1 0)) (partsOf (recordsOf b) q)
     told-first b′ q′ h =
@@ -166,7 +167,7 @@ module _ (first : List Op) (n : Number) (b : List ℕ) (q : Question) (more : Li
 
     -- refused by 23 at its entry if it is another,
     pub refused-other : (b′ : List ℕ) (q′ : Question) → same (questionWords q) (questionWords q′) ≡ false
-        → saleAnswer now (n .till) (n .sequence) b′ q′ ≡ refusal 23 i 0
+        → saleAnswer now (n .till) (n .sequence) b′ q′ ≡ noReceipt 23 i 0
     refused-other b′ q′ h =
         sent-again b′ q′ ∙ again-other (later entry more) i q′ (ap (λ x. same x (questionWords q′)) (asked-is (cancelledIn n more)) ∙ h)
 

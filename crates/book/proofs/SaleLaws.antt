@@ -26,31 +26,31 @@ use Rattle.fares.specs.Legs.{partOf}
 use Rattle.fares.specs.Fare.{partsOf, priceChecks, fareChecks}
 use Rattle.fares.specs.declared.Question.{Question}
 use Rattle.fares.proofs.FareLaws.{asked, part-small}
-use Rattle.book.specs.Words.{Entry, noEntry, capacity, width, countOf, entries, questionWords, booking}
-use Rattle.book.specs.Sound.{isZero, numberInLimits, entrySound, sameNumber, placeOf}
+use Rattle.book.specs.Words.{Entry, noEntry, capacity, width, countOf, entries, questionWords, booking, statusAt, startOf}
+use Rattle.book.specs.Sound.{isZero, numberInLimits, entrySound, hasNumber, heldAt}
 use Rattle.book.specs.Sales.{isClean, place, isPresent, present, saleChecks, isBooked, added, saleWords, cancelChecks, isCancelled, cancelWords}
 use Rattle.book.specs.History.{Number, isIn, books}
-use Rattle.book.proofs.Blocks.{marked}
-use Rattle.book.proofs.EntryLaws.{IsSound, sound-is, entry-is, entries-length, entries-marked, entries-added}
-use Rattle.book.proofs.QuestionLaws.{words-length}
-use Rattle.book.proofs.Kept.{cancelling, booking-sound, added-sound, passed, set-is-map, none-cancelled, marked-keeps, only-place}
+use Rattle.book.proofs.Blocks.{cancelledEntry, Whole}
+use Rattle.book.proofs.EntryLaws.{IsSound, sound-is, entry-is, entries-length, entries-cancelled, entries-added}
+use Rattle.book.proofs.QuestionWords.{words-length}
+use Rattle.book.proofs.Kept.{cancelling, booking-sound, added-sound, passed, set-is-map, none-cancelled, cancelling-keeps, only-place}
 
 -- the number of an entry, and those of a book
-abbrev pub numberOf : Entry → Number
-numberOf e = record { till = e .till; sequence = e .sequence }
+abbrev pub saleNumberOf : Entry → Number
+saleNumberOf e = record { till = e .till; sequence = e .sequence }
 
-abbrev pub numbersOf : List Entry → List Number
-numbersOf es = map numberOf es
+abbrev pub saleNumbersOf : List Entry → List Number
+saleNumbersOf es = map saleNumberOf es
 
-any-number : (n : Number) (es : List Entry) → any (sameNumber (n .till) (n .sequence)) es ≡ isIn n (numbersOf es)
+any-number : (n : Number) (es : List Entry) → any (hasNumber (n .till) (n .sequence)) es ≡ isIn n (saleNumbersOf es)
 unfolding any
 any-number n [] = refl
-any-number n (e ∷ es) = ap (λ b. sameNumber (n .till) (n .sequence) e || b) (any-number n es)
+any-number n (e ∷ es) = ap (λ b. hasNumber (n .till) (n .sequence) e || b) (any-number n es)
 
 -- a number is present in a book exactly if it is among its numbers
-pub present-is : (w : List ℕ) (n : Number) → isPresent w (n .till) (n .sequence) ≡ isIn n (numbersOf (entries w))
-unfolding placeOf
-present-is w n = sym (any-least (sameNumber (n .till) (n .sequence)) noEntry (entries w)) ∙ any-number n (entries w)
+pub present-is : (w : List ℕ) (n : Number) → isPresent w (n .till) (n .sequence) ≡ isIn n (saleNumbersOf (entries w))
+unfolding heldAt
+present-is w n = sym (any-least (hasNumber (n .till) (n .sequence)) noEntry (entries w)) ∙ any-number n (entries w)
 
 -- A SALE BOOKS exactly if the history says so
 booked-by : (L P D F : Bool) (i : ℕ) (cs : List Check)
@@ -72,7 +72,7 @@ booked-by false false D F i cs = refl
 not-full : (k m : ℕ) → not (leb m k) ≡ ltb k m
 not-full k m = ⊎-elim (λ h. rw (lt-leb m k h, lt-ltb k m h)) (λ h. rw (le-leb m k h, le-ltb k m h)) (side k m)
 
-pub books-is : (w : List ℕ) → IsSound w → (n : Number) (b : List ℕ) (q : Question) → isBooked w (n .till) (n .sequence) b q ≡ books (numbersOf (entries w)) n b q
+pub books-is : (w : List ℕ) → IsSound w → (n : Number) (b : List ℕ) (q : Question) → isBooked w (n .till) (n .sequence) b q ≡ books (saleNumbersOf (entries w)) n b q
 unfolding isBooked saleChecks books firstFault
 books-is w s n b q =
     let L = numberInLimits (n .till) (n .sequence) in
@@ -82,7 +82,7 @@ books-is w s n b q =
     let e = booked-by L P D F (place w (n .till) (n .sequence)) (fareChecks b q) in
     let x : (isClean (firstFault (saleChecks w (n .till) (n .sequence) b q)) && not P) ≡ (L && (not P && (not F && isClean (firstFault (fareChecks b q))))) =
     rw (sound-is w s) e in
-    x ∙ rw (not-full (length (entries w)) capacity, present-is w n, ← length-map (entries w) numberOf)
+    x ∙ rw (not-full (length (entries w)) capacity, present-is w n, ← length-map (entries w) saleNumberOf)
 
 -- what a sale that books has: a question within its limits, and parts within the bound, zero from the leg count on
 every-by : {A : Type 0} (p : A → Bool) (d : A) (xs : List A) → ((i : ℕ) → i < length xs → p (getD xs i d) ≡ true) → every p xs ≡ true
@@ -149,11 +149,11 @@ module _ (w : List ℕ) (s : IsSound w) (n : Number) (b : List ℕ) (q : Questio
   abbrev entry : Entry
   entry = booking t u q (partsOf (recordsOf b) q)
 
-  pub not-booked : books (numbersOf (entries w)) n b q ≡ false → saleWords w t u b q ≡ w
+  pub not-booked : books (saleNumbersOf (entries w)) n b q ≡ false → saleWords w t u b q ≡ w
   unfolding saleWords
   not-booked e = rw (books-is w s n b q ∙ e)
 
-  module _ (e : books (numbersOf (entries w)) n b q ≡ true) where
+  module _ (e : books (saleNumbersOf (entries w)) n b q ≡ true) where
     pub books-number : numberInLimits t u ≡ true
     unfolding books
     books-number = both-true (numberInLimits t u) _ e .0
@@ -162,32 +162,35 @@ module _ (w : List ℕ) (s : IsSound w) (n : Number) (b : List ℕ) (q : Questio
     unfolding books
     told =
         let a = both-true (numberInLimits t u) _ e in
-        let p = both-true (not (isIn n (numbersOf (entries w)))) _ (a .1) in
-        let k = both-true (ltb (length (numbersOf (entries w))) capacity) (isClean (firstFault (fareChecks b q))) (p .1) in (
+        let p = both-true (not (isIn n (saleNumbersOf (entries w)))) _ (a .1) in
+        let k = both-true (ltb (length (saleNumbersOf (entries w))) capacity) (isClean (firstFault (fareChecks b q))) (p .1) in (
           a .0,
-          present-is w n ∙ not-true (isIn n (numbersOf (entries w))) (p .0),
-          rw (length-map (entries w) numberOf) at (ltb-true (length (numbersOf (entries w))) capacity (k .0)),
+          present-is w n ∙ not-true (isIn n (saleNumbersOf (entries w))) (p .0),
+          rw (length-map (entries w) saleNumberOf) at (ltb-true (length (saleNumbersOf (entries w))) capacity (k .0)),
           clean-by (firstFault (fareChecks b q)) (k .1),
         )
 
     room : countOf w < capacity
     room = rw (entries-length w) at (told .2)
 
-    absent : placeOf t u (entries w) ≡ length (entries w)
-    unfolding placeOf
-    absent = omega (arith, ltb-false (placeOf t u (entries w)) (length (entries w)) (told .1), within (λ i. sameNumber t u (getD (entries w) i noEntry)) (length (entries w)))
+    absent : heldAt t u (entries w) ≡ length (entries w)
+    unfolding heldAt
+    absent = omega (arith, ltb-false (heldAt t u (entries w)) (length (entries w)) (told .1), within (λ i. hasNumber t u (getD (entries w) i noEntry)) (length (entries w)))
 
-    pub sale-adds : saleWords w t u b q ≡ added w t u entry
+    pub sale-adds : saleWords w t u b q ≡ added w entry
     unfolding saleWords
     sale-adds = rw (books-is w s n b q ∙ e)
 
+    whole : Whole entry
+    whole = record { asked-long = words-length q; parts-long = parts-length b q (told .3); spare-long = refl }
+
     pub sale-entries : entries (saleWords w t u b q) ≡ entries w ++ (entry ∷ [])
-    sale-entries = rw sale-adds (entries-added w s t u entry room (words-length q) (parts-length b q (told .3)) refl)
+    sale-entries = rw sale-adds (entries-added w s entry room whole)
 
     pub sale-sound : IsSound (saleWords w t u b q)
     sale-sound =
         rw sale-adds
-        (added-sound w s t u entry room (words-length q) (parts-length b q (told .3)) refl
+        (added-sound w s entry room whole
         (booking-sound t u q (partsOf (recordsOf b) q) (told .0) (priced-in-limits b q (told .3)) (parts-small b q (told .3)) (parts-clear b q (told .3))) absent)
 
 -- THE CANCELLATION
@@ -205,38 +208,38 @@ module _ (w : List ℕ) (s : IsSound w) (t u : ℕ) where
   cancelled-by false true = refl
   cancelled-by false false = refl
 
-  cancels : isCancelled w t u ≡ ((numberInLimits t u && isPresent w t u) && eqb (present w t u .mark) 0)
+  cancels : isCancelled w t u ≡ ((numberInLimits t u && isPresent w t u) && eqb (present w t u .status) 0)
   unfolding isCancelled cancelChecks firstFault
   cancels =
       let e = cancelled-by (numberInLimits t u) (isPresent w t u) in
       let x : isClean (firstFault (cancelChecks w t u)) ≡ (numberInLimits t u && isPresent w t u) = rw (sound-is w s) e in
-      ap (λ b. b && eqb (present w t u .mark) 0) x
+      ap (λ b. b && eqb (present w t u .status) 0) x
 
-  -- a live sale is marked
-  marks : isPresent w t u ≡ true → After (set w (1 + place w t u * width + 61) 1)
-  marks p =
+  -- a live sale is cancelled
+  sets-status : isPresent w t u ≡ true → After (set w (startOf (place w t u) + statusAt) 1)
+  sets-status p =
       let l : place w t u < length es = ltb-true (place w t u) (length es) p in
       let i : place w t u < countOf w = rw (entries-length w) at l in
-      let c : countOf (set w (1 + place w t u * width + 61) 1) ≡ countOf w = getD-set-other w (1 + place w t u * width + 61) 0 1 0 (λ e. omega arith) in
-      let e : entries (set w (1 + place w t u * width + 61) 1) ≡ map (cancelling t u) es =
-      entries-marked w s (place w t u) i
-      ∙ (ap (λ x. set es (place w t u) (marked x)) (sym (entry-is w (place w t u) i)) ∙ set-is-map t u es (s .differ) l) in
-      let k = marked-keeps t u es (s .good) (s .differ) in (
+      let c : countOf (set w (startOf (place w t u) + statusAt) 1) ≡ countOf w = getD-set-other w (startOf (place w t u) + statusAt) 0 1 0 (λ e. omega arith) in
+      let e : entries (set w (startOf (place w t u) + statusAt) 1) ≡ map (cancelling t u) es =
+      entries-cancelled w s (place w t u) i
+      ∙ (ap (λ x. set es (place w t u) (cancelledEntry x)) (sym (entry-is w (place w t u) i)) ∙ set-is-map t u es (s .differ) l) in
+      let k = cancelling-keeps t u es (s .good) (s .differ) in (
         e,
         record {
-          long = length-set w (1 + place w t u * width + 61) 1 ∙ s .long;
+          long = length-set w (startOf (place w t u) + statusAt) 1 ∙ s .long;
           few = rw c (s .few);
           good = rw e (k .0);
           differ = rw e (k .1);
-          clear = rw (c, drop-set-lt (1 + countOf w * width) w (1 + place w t u * width + 61) 1 (omega arith)) (s .clear);
+          clear = rw (c, drop-set-lt (startOf (countOf w)) w (startOf (place w t u) + statusAt) 1 (omega arith)) (s .clear);
         },
       )
 
   -- any other leaves the entries as they are, which is what cancelling does to them
-  unmarked : (e : Entry) → entrySound e ≡ true → (e .mark ≡ 0 → ⊥) → marked e ≡ e
-  unmarked e g n =
-      let m : 1 ≡ e .mark = omega (arith, leb-true (e .mark) 1 (passed e g 4 (omega arith)), one-at-least (e .mark) n) in
-      λ i. record { till = e .till; sequence = e .sequence; asked = e .asked; parts = e .parts; mark = m i; spare = e .spare }
+  already-cancelled : (e : Entry) → entrySound e ≡ true → (e .status ≡ 0 → ⊥) → cancelledEntry e ≡ e
+  already-cancelled e g n =
+      let m : 1 ≡ e .status = omega (arith, leb-true (e .status) 1 (passed e g 4 (omega arith)), one-at-least (e .status) n) in
+      λ i. record { till = e .till; sequence = e .sequence; asked = e .asked; parts = e .parts; status = m i; spare = e .spare }
     where
       one-at-least : (k : ℕ) → (k ≡ 0 → ⊥) → 1 ≤ k
       one-at-least zero h = absurd (h refl)
@@ -248,46 +251,46 @@ module _ (w : List ℕ) (s : IsSound w) (t u : ℕ) where
   abbrev Stays : ℕ → Type 0
   Stays j = cancelling t u (getD es j noEntry) ≡ getD es j noEntry
 
-  by-number : (j : ℕ) → j < length es → (b : Bool) → sameNumber t u (getD es j noEntry) ≡ b → (b ≡ true → marked (getD es j noEntry) ≡ getD es j noEntry) → Stays j
+  by-number : (j : ℕ) → j < length es → (b : Bool) → hasNumber t u (getD es j noEntry) ≡ b → (b ≡ true → cancelledEntry (getD es j noEntry) ≡ getD es j noEntry) → Stays j
   by-number j l true e f = rw e (f refl)
   by-number j l false e f = rw e
 
   -- an entry of the number is at the number's place, in a book whose numbers differ, and its number is within the limits
-  in-limits : (j : ℕ) → j < length es → sameNumber t u (getD es j noEntry) ≡ true → numberInLimits t u ≡ true
+  in-limits : (j : ℕ) → j < length es → hasNumber t u (getD es j noEntry) ≡ true → numberInLimits t u ≡ true
   in-limits j l h =
       let e = getD es j noEntry in
       let b = both-true (eqb (e .till) t) (eqb (e .sequence) u) h in
       rw (eqb-true (e .till) t (b .0), eqb-true (e .sequence) u (b .1)) at (passed e (good-at j l) 0 (omega arith))
 
-  pub at-place : (j : ℕ) → j < length es → sameNumber t u (getD es j noEntry) ≡ true → (isPresent w t u ≡ true) × (place w t u ≡ j)
-  unfolding placeOf
+  pub at-place : (j : ℕ) → j < length es → hasNumber t u (getD es j noEntry) ≡ true → (isPresent w t u ≡ true) × (place w t u ≡ j)
+  unfolding heldAt
   at-place j l h =
-      let p : ℕ → Bool = λ k. sameNumber t u (getD es k noEntry) in
+      let p : ℕ → Bool = λ k. hasNumber t u (getD es k noEntry) in
       let m : least p (length es) ≤ j = not-after j l h in
       (lt-ltb (least p (length es)) (length es) (omega arith), same-place j l h m)
     where
-      not-after : (k : ℕ) → k < length es → sameNumber t u (getD es k noEntry) ≡ true → least (λ i. sameNumber t u (getD es i noEntry)) (length es) ≤ k
+      not-after : (k : ℕ) → k < length es → hasNumber t u (getD es k noEntry) ≡ true → least (λ i. hasNumber t u (getD es i noEntry)) (length es) ≤ k
       not-after k g e =
-          ⊎-elim (λ x. never e (before (λ i. sameNumber t u (getD es i noEntry)) (length es) k x)) (λ x. x)
-          (side k (least (λ i. sameNumber t u (getD es i noEntry)) (length es)))
+          ⊎-elim (λ x. never e (before (λ i. hasNumber t u (getD es i noEntry)) (length es) k x)) (λ x. x)
+          (side k (least (λ i. hasNumber t u (getD es i noEntry)) (length es)))
 
-      same-place : (k : ℕ) → k < length es → sameNumber t u (getD es k noEntry) ≡ true → least (λ i. sameNumber t u (getD es i noEntry)) (length es) ≤ k
-          → least (λ i. sameNumber t u (getD es i noEntry)) (length es) ≡ k
+      same-place : (k : ℕ) → k < length es → hasNumber t u (getD es k noEntry) ≡ true → least (λ i. hasNumber t u (getD es i noEntry)) (length es) ≤ k
+          → least (λ i. hasNumber t u (getD es i noEntry)) (length es) ≡ k
       same-place k g e m = only-place t u es (s .differ) k g e m
 
   stays : isCancelled w t u ≡ false → (j : ℕ) → j < length es → Stays j
   stays c j l =
-      by-number j l (sameNumber t u (getD es j noEntry)) refl
+      by-number j l (hasNumber t u (getD es j noEntry)) refl
       (λ h. let p = at-place j l h in
-      unmarked (getD es j noEntry) (good-at j l)
+      already-cancelled (getD es j noEntry) (good-at j l)
       (λ z. never (rw (in-limits j l h, p .0, p .1, z) refl) (sym cancels ∙ c)))
 
   pub cancel-after : After (cancelWords w t u)
   unfolding cancelWords
   cancel-after = go (isCancelled w t u) refl
     where
-      go : (b : Bool) → isCancelled w t u ≡ b → After (cond b (set w (1 + place w t u * width + 61) 1) w)
+      go : (b : Bool) → isCancelled w t u ≡ b → After (cond b (set w (startOf (place w t u) + statusAt) 1) w)
       go true e =
-          let b = both-true (numberInLimits t u && isPresent w t u) (eqb (present w t u .mark) 0) (sym cancels ∙ e) in
-          marks (both-true (numberInLimits t u) (isPresent w t u) (b .0) .1)
+          let b = both-true (numberInLimits t u && isPresent w t u) (eqb (present w t u .status) 0) (sym cancels ∙ e) in
+          sets-status (both-true (numberInLimits t u) (isPresent w t u) (b .0) .1)
       go false e = (sym (none-cancelled t u es (stays e)), s)

@@ -19,8 +19,8 @@ use Rattle.common.proofs.Parts.{part-rest}
 use Rattle.common.proofs.Tests.{never, both-true}
 use Rattle.fares.specs.Question.{inLimits}
 use Rattle.fares.proofs.FareLaws.{asked}
-use Rattle.book.specs.Words.{Entry, noEntry, questionWidth, questionOf, questionWords}
-use Rattle.book.specs.Sound.{isZero, askedSound, sameNumber, repeats, numbersDiffer}
+use Rattle.book.specs.Words.{Entry, noEntry, questionWidth, questionOf, questionWords, countAt, askedAt, partsAt, statusAt}
+use Rattle.book.specs.Sound.{isZero, askedSound, hasNumber, repeats, numbersDiffer}
 
 -- the leg count of a sound question
 pub few-legs : (ws : List ℕ) → askedSound ws ≡ true → questionOf ws .count ≤ 8
@@ -28,9 +28,9 @@ few-legs ws e = asked (questionOf ws) (both-true (inLimits (questionOf ws)) (sam
 
 module _ (f : ℕ → Entry) (n : ℕ) where
   -- entry i repeats an earlier number
-  pub repeats-at : (i : ℕ) → i < n → repeats (upTo f n) i ≡ ltb (least (λ j. sameNumber (f i .till) (f i .sequence) (f j)) i) i
+  pub repeats-at : (i : ℕ) → i < n → repeats (upTo f n) i ≡ ltb (least (λ j. hasNumber (f i .till) (f i .sequence) (f j)) i) i
   repeats-at i l =
-      let e : least (λ j. sameNumber (f i .till) (f i .sequence) (getD (upTo f n) j noEntry)) i ≡ least (λ j. sameNumber (f i .till) (f i .sequence) (f j)) i =
+      let e : least (λ j. hasNumber (f i .till) (f i .sequence) (getD (upTo f n) j noEntry)) i ≡ least (λ j. hasNumber (f i .till) (f i .sequence) (f j)) i =
       alike _ _ i (λ j h. rw (upto-at f n j noEntry (omega arith))) in
       rw (upto-at f n i noEntry l, e)
 
@@ -47,19 +47,19 @@ module _ (f : ℕ → Entry) (n : ℕ) where
   none-repeats e = rw (upto-length f n, e) (eq-eqb n n refl)
 
 -- the words of an entry: its leg count, and the parts from there on
-pub count-word : (w : List ℕ) → questionOf (take questionWidth (drop 2 w)) .count ≡ getD w 8 0
+pub count-word : (w : List ℕ) → questionOf (take questionWidth (drop askedAt w)) .count ≡ getD w (askedAt + countAt) 0
 unfolding questionOf
-count-word w = getD-take questionWidth (drop 2 w) 6 0 (omega arith) ∙ getD-drop 2 w 6 0
+count-word w = getD-take questionWidth (drop askedAt w) 6 0 (omega arith) ∙ getD-drop askedAt w 6 0
 
-pub unused-parts : (w : List ℕ) → getD w 8 0 ≤ 8
-    → take (61 - (53 + getD w 8 0)) (drop (53 + getD w 8 0) w) ≡ drop (questionOf (take questionWidth (drop 2 w)) .count) (take 8 (drop 53 w))
-unused-parts w h = rw (count-word w) (go (getD w 8 0) h)
+pub unused-parts : (w : List ℕ) → getD w (askedAt + countAt) 0 ≤ 8
+    → take (statusAt - (partsAt + getD w (askedAt + countAt) 0)) (drop (partsAt + getD w (askedAt + countAt) 0) w) ≡ drop (questionOf (take questionWidth (drop askedAt w)) .count) (take 8 (drop partsAt w))
+unused-parts w h = rw (count-word w) (go (getD w (askedAt + countAt) 0) h)
   where
-    go : (n : ℕ) → n ≤ 8 → take (61 - (53 + n)) (drop (53 + n) w) ≡ drop n (take 8 (drop 53 w))
+    go : (n : ℕ) → n ≤ 8 → take (statusAt - (partsAt + n)) (drop (partsAt + n) w) ≡ drop n (take 8 (drop partsAt w))
     go n l =
-        let m : 61 - (53 + n) ≡ 8 - n = omega arith in
+        let m : statusAt - (partsAt + n) ≡ 8 - n = omega arith in
         let e : n + (8 - n) ≡ 8 = omega arith in
-        rw (m, ← drop-drop n 53 w) (sym (rw e at (part-rest n (8 - n) (drop 53 w))))
+        rw (m, ← drop-drop n partsAt w) (sym (rw e at (part-rest n (8 - n) (drop partsAt w))))
 
 -- the sum of one word more
 pub sum-taken : (xs : List ℕ) (k : ℕ) → k < length xs → sum (take (k + 1) xs) ≡ sum (take k xs) + getD xs k 0

@@ -15,9 +15,10 @@ use Rattle.common.proofs.Lists.{every-at}
 use Rattle.common.proofs.Sums.{sum-append, sum-up-small}
 use Rattle.common.proofs.Tests.{both-true}
 use Rattle.fares.specs.Question.{between}
-use Rattle.book.specs.Words.{Entry, width, questionWidth, capacity, bookLength, countOf, railwayAt, entryOf, entryAt, entries}
+use Rattle.book.specs.Words.{Entry, width, questionWidth, capacity, bookLength, countOf, railwayAt, entryOf, entryAt, entries, askedAt, partsAt, startOf, legsAt, legWidth}
 use Rattle.book.specs.Sound.{soundWords}
-use Rattle.book.specs.Balances.{ofRailway, ofAll, counted, liveAmount, balanceOf}
+use Rattle.book.specs.Balances.{ofRailway, ofAll, liveAmount, balanceOf}
+use Rattle.book.specs.Helpers.{counted}
 use Rattle.book.proofs.Blocks.{word-at}
 
 -- the largest word
@@ -25,24 +26,24 @@ abbrev pub most : ℕ
 most = 4294967295
 
 -- A WORD OF AN ENTRY: part j, and the railway of leg j
-pub part-at : (b : List ℕ) (j : ℕ) → j < 8 → getD (take 8 (drop 53 b)) j 0 ≡ getD b (53 + j) 0
-part-at b j l = getD-take 8 (drop 53 b) j 0 l ∙ getD-drop 53 b j 0
+pub part-at : (b : List ℕ) (j : ℕ) → j < 8 → getD (take 8 (drop partsAt b)) j 0 ≡ getD b (partsAt + j) 0
+part-at b j l = getD-take 8 (drop partsAt b) j 0 l ∙ getD-drop partsAt b j 0
 
-pub railway-at : (b : List ℕ) (j : ℕ) → j < 8 → getD (take questionWidth (drop 2 b)) (19 + 4 * j) 0 ≡ getD b (21 + 4 * j) 0
+pub railway-at : (b : List ℕ) (j : ℕ) → j < 8 → getD (take questionWidth (drop askedAt b)) (railwayAt j) 0 ≡ getD b (askedAt + legsAt + legWidth * j) 0
 railway-at b j l =
-    let e : 2 + (19 + 4 * j) ≡ 21 + 4 * j = omega arith in
-    getD-take questionWidth (drop 2 b) (19 + 4 * j) 0 (omega arith) ∙ (getD-drop 2 b (19 + 4 * j) 0 ∙ ap (λ k. getD b k 0) e)
+    let e : askedAt + railwayAt j ≡ askedAt + legsAt + legWidth * j = omega arith in
+    getD-take questionWidth (drop askedAt b) (railwayAt j) 0 (omega arith) ∙ (getD-drop askedAt b (railwayAt j) 0 ∙ ap (λ k. getD b k 0) e)
 
 -- what leg j of an entry comes to for a railway, or for all: its part if it counts, and else nothing
 abbrev pub countedPart : ℕ → List ℕ → List ℕ → ℕ → ℕ
 countedPart railway asked parts j = cond (eqb railway 0 || eqb (getD asked (railwayAt j) 0) railway) (getD parts j 0) 0
 
 module _ (b : List ℕ) (railway j : ℕ) (l : j < 8) where
-  pub leg-counts : {c : Bool} → c ≡ (eqb railway 0 || eqb (getD b (21 + 4 * j) 0) railway) → c ≡ true
-      → countedPart railway (entryOf b .asked) (entryOf b .parts) j ≡ getD b (53 + j) 0
+  pub leg-counts : {c : Bool} → c ≡ (eqb railway 0 || eqb (getD b (askedAt + legsAt + legWidth * j) 0) railway) → c ≡ true
+      → countedPart railway (entryOf b .asked) (entryOf b .parts) j ≡ getD b (partsAt + j) 0
   leg-counts e t = rw (railway-at b j l, sym e ∙ t) (part-at b j l)
 
-  pub leg-counts-not : {c : Bool} → c ≡ (eqb railway 0 || eqb (getD b (21 + 4 * j) 0) railway) → c ≡ false
+  pub leg-counts-not : {c : Bool} → c ≡ (eqb railway 0 || eqb (getD b (askedAt + legsAt + legWidth * j) 0) railway) → c ≡ false
       → countedPart railway (entryOf b .asked) (entryOf b .parts) j ≡ 0
   leg-counts-not e t = rw (railway-at b j l, sym e ∙ t)
 
@@ -70,7 +71,7 @@ Small w f = (i : ℕ) → f (entryAt w i .asked) (entryAt w i .parts) ≤ mostOf
 module _ (w : List ℕ) (words-small : (k : ℕ) → getD w k 0 ≤ most) where
   part-small : (i j : ℕ) → j < 8 → getD (entryAt w i .parts) j 0 ≤ most
   part-small i j l =
-      rw (part-at (take width (drop (1 + i * width) w)) j l, word-at w i (53 + j) (omega arith)) (words-small (1 + i * width + (53 + j)))
+      rw (part-at (take width (drop (startOf i) w)) j l, word-at w i (partsAt + j) (omega arith)) (words-small (startOf i + (partsAt + j)))
 
   pub counted-small : (railway : ℕ) → Small w (counted railway)
   counted-small railway i =
@@ -91,7 +92,7 @@ module _ (f : List ℕ → List ℕ → ℕ) where
       rw (add-one, map-append (liveAmount f) (upTo g i) (g i ∷ [])) (omega (arith, sum-append (map (liveAmount f) (upTo g i)) (liveAmount f (g i) ∷ [])))
 
   pub live-small : (w : List ℕ) → Small w f → (i : ℕ) → liveAmount f (entryAt w i) ≤ mostOf
-  live-small w s i = cond-small (eqb (entryAt w i .mark) 0) (f (entryAt w i .asked) (entryAt w i .parts)) mostOf (s i)
+  live-small w s i = cond-small (eqb (entryAt w i .status) 0) (f (entryAt w i .asked) (entryAt w i .parts)) mostOf (s i)
 
 -- a railway's number is not the one that stands for all
 pub counted-railway : (railway : ℕ) (es : List Entry) → between 1 9999 railway ≡ true → balanceOf (counted railway) es ≡ balanceOf (ofRailway railway) es
@@ -111,10 +112,10 @@ pub sound-count : (w : List ℕ) → soundWords w ≡ true → countOf w ≤ cap
 sound-count w e = leb-true _ _ (sound-at w e .1)
 
 -- the part of the book that is entry i
-pub block : (w : List ℕ) (i : ℕ) → take (1 + i * width + width - (1 + i * width)) (drop (1 + i * width) w) ≡ take width (drop (1 + i * width) w)
-block w i = let e : 1 + i * width + width - (1 + i * width) ≡ width = omega arith in rw e
+pub block : (w : List ℕ) (i : ℕ) → take (startOf i + width - (startOf i)) (drop (startOf i) w) ≡ take width (drop (startOf i) w)
+block w i = let e : startOf i + width - (startOf i) ≡ width = omega arith in rw e
 
-pub block-length : (w : List ℕ) (i : ℕ) → 1 + i * width + width ≤ length w → length (take (1 + i * width + width - (1 + i * width)) (drop (1 + i * width) w)) ≡ width
+pub block-length : (w : List ℕ) (i : ℕ) → startOf i + width ≤ length w → length (take (startOf i + width - (startOf i)) (drop (startOf i) w)) ≡ width
 block-length w i l = rw (block w i, length-take, length-drop) (omega arith)
 
 -- THE SUM over the entries before i, and its turn: what entry i comes to is added
@@ -126,7 +127,7 @@ module _ (f : List ℕ → List ℕ → ℕ) (w : List ℕ) where
   sum-start = (omega arith, sym (balance-none f (entryAt w)))
 
   pub sum-turn : Small w f → (i total r : ℕ) → Summed f w i total
-      → r ≡ liveAmount f (entryOf (take (1 + i * width + width - (1 + i * width)) (drop (1 + i * width) w)))
+      → r ≡ liveAmount f (entryOf (take (startOf i + width - (startOf i)) (drop (startOf i) w)))
       → Summed f w (i + 1) (total + r)
   sum-turn s i total r t e =
       let d : r ≡ liveAmount f (entryAt w i) = e ∙ ap (λ b. liveAmount f (entryOf b)) (block w i) in

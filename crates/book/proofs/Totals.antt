@@ -12,17 +12,16 @@ use lib.Seq.{getD-drop}
 use borrow.Author.Tests.{eq-eqb, ne-eqb, eqb-true, leb-true}
 use Rattle.common.specs.Lists.{sum, every, upTo}
 use Rattle.common.proofs.Tests.{side, both-true}
-use Rattle.common.proofs.Lists.{every-at, upto-same, first-length, first-at}
+use Rattle.common.proofs.Lists.{every-at, upto-at, upto-same, first-length, first-at}
 use Rattle.common.proofs.Sums.{sum-append}
 use Rattle.fares.specs.Question.{noLeg, legsOf, legInLimits, between, inLimits, limitsOf}
 use Rattle.fares.specs.declared.Question.{Question}
 use Rattle.fares.proofs.FareLaws.{asked as asked-of}
-use Rattle.book.specs.Words.{Entry, entries, questionOf, legOf}
+use Rattle.book.specs.Words.{Entry, entries, questionOf, railwayAt, fareAt, legOf}
 use Rattle.book.specs.Sound.{isZero, entrySound, soundWords}
 use Rattle.book.specs.Balances.{legPart, ofRailway, ofAll, liveAmount, balanceOf}
 use Rattle.book.proofs.Kept.{passed}
 use Rattle.book.proofs.EntryLaws.{is-sound}
-use Rattle.book.proofs.QuestionLaws.{leg-said}
 
 -- SUMS, added and swapped
 sum-both : (f g : ℕ → ℕ) (n : ℕ) → sum (upTo (λ r. f r + g r) n) ≡ sum (upTo f n) + sum (upTo g n)
@@ -107,14 +106,14 @@ module _ (e : Entry) (g : entrySound e ≡ true) where
   few : q .count ≤ 8
   few = asked-of q in-limits .few
 
-  railway-in : (j : ℕ) → j < q .count → between 1 9999 (getD asked (19 + 4 * j) 0) ≡ true
-  unfolding inLimits
+  railway-in : (j : ℕ) → j < q .count → between 1 9999 (getD asked (railwayAt j) 0) ≡ true
+  unfolding inLimits questionOf
   railway-in j l =
       let n = first-length noLeg (q .count) (q .legs) in
       let t : every legInLimits (legsOf q) ≡ true = every-at (λ b. b) (limitsOf q) in-limits 5 true (omega arith) in
       let h : legInLimits (getD (legsOf q) j noLeg) ≡ true = every-at legInLimits (legsOf q) t j noLeg (omega (arith, n)) in
-      let x : getD (legsOf q) j noLeg ≡ legOf asked j = first-at noLeg (q .count) (q .legs) j l ∙ leg-said asked j (omega (arith, few)) in
-      both-true (between 1 9999 (getD asked (19 + 4 * j) 0)) (leb (getD asked (20 + 4 * j) 0) 999999) (rw x at h) .0
+      let x : getD (legsOf q) j noLeg ≡ legOf asked j = first-at noLeg (q .count) (q .legs) j l ∙ upto-at (legOf asked) 8 j noLeg (omega (arith, few)) in
+      both-true (between 1 9999 (getD asked (railwayAt j) 0)) (leb (getD asked (fareAt j) 0) 999999) (rw x at h) .0
 
   unused : (j : ℕ) → q .count ≤ j → getD (e .parts) j 0 ≡ 0
   unused j l =
@@ -123,7 +122,7 @@ module _ (e : Entry) (g : entrySound e ≡ true) where
       ap (λ i. getD (e .parts) i 0) (sym k) ∙ (sym (getD-drop (q .count) (e .parts) (j - q .count) 0) ∙ z)
 
   abbrev railway : ℕ → ℕ
-  railway j = getD asked (19 + 4 * j) 0
+  railway j = getD asked (railwayAt j) 0
 
   leg-whole : (j : ℕ) → sum (upTo (λ r. legPart (r + 1) asked (e .parts) j) 9999) ≡ getD (e .parts) j 0
   leg-whole j = ⊎-elim used not-used (side j (q .count))
@@ -154,7 +153,7 @@ balances (e ∷ es) g =
     let d = both-split e es g in
     ap sum (upto-same (λ r. balanceOf (ofRailway (r + 1)) (e ∷ es)) (λ r. liveAmount (ofRailway (r + 1)) e + balanceOf (ofRailway (r + 1)) es) 9999 (λ r l. owed-more (ofRailway (r + 1)) e es))
     ∙ (sum-both (λ r. liveAmount (ofRailway (r + 1)) e) (λ r. balanceOf (ofRailway (r + 1)) es) 9999
-    ∙ (ap₂ _+_ (live-by e (d .0) (eqb (e .mark) 0)) (balances es (d .1)) ∙ sym (owed-more ofAll e es)))
+    ∙ (ap₂ _+_ (live-by e (d .0) (eqb (e .status) 0)) (balances es (d .1)) ∙ sym (owed-more ofAll e es)))
 
 pub total-is-sum : (w : List ℕ) → soundWords w ≡ true → balanceOf ofAll (entries w) ≡ sum (upTo (λ r. balanceOf (ofRailway (r + 1)) (entries w)) 9999)
 total-is-sum w s = sym (balances (entries w) (is-sound w s .good))

@@ -23,13 +23,9 @@ ofRailway railway asked parts = sum (upTo (legPart railway asked parts) 8)
 abbrev pub ofAll : List ℕ → List ℕ → ℕ
 ofAll asked parts = sum (upTo (λ j. getD parts j 0) 8)
 
--- by one number: 0 stands for all railways, as it does in the tables
-abbrev pub counted : ℕ → List ℕ → List ℕ → ℕ
-counted railway asked parts = cond (eqb railway 0) (ofAll asked parts) (ofRailway railway asked parts)
-
 -- an entry counts unless it is cancelled
 abbrev pub liveAmount : (List ℕ → List ℕ → ℕ) → Entry → ℕ
-liveAmount f e = cond (eqb (e .mark) 0) (f (e .asked) (e .parts)) 0
+liveAmount f e = cond (eqb (e .status) 0) (f (e .asked) (e .parts)) 0
 
 unfoldable pub balanceOf : (List ℕ → List ℕ → ℕ) → List Entry → ℕ
 balanceOf f es = sum (map (liveAmount f) es)
@@ -40,13 +36,13 @@ summed (fault k p d) n = Refused k p d
 
 -- "Balance of one railway (21, then 11), and total of all (21)"
 abbrev pub balanceChecks : List ℕ → ℕ → List Check
-balanceChecks w railway = check (not (soundWords w)) 21 0 0 ∷ check (not (between 1 9999 railway)) 11 0 0 ∷ []
+balanceChecks book railway = check (not (soundWords book)) 21 0 0 ∷ check (not (between 1 9999 railway)) 11 0 0 ∷ []
 
 abbrev pub totalChecks : List ℕ → List Check
-totalChecks w = check (not (soundWords w)) 21 0 0 ∷ []
+totalChecks book = check (not (soundWords book)) 21 0 0 ∷ []
 
 unfoldable pub balanceAnswer : List ℕ → ℕ → Sum
-balanceAnswer w railway = summed (firstFault (balanceChecks w railway)) (balanceOf (ofRailway railway) (entries w))
+balanceAnswer book railway = summed (firstFault (balanceChecks book railway)) (balanceOf (ofRailway railway) (entries book))
 
 unfoldable pub totalAnswer : List ℕ → Sum
-totalAnswer w = summed (firstFault (totalChecks w)) (balanceOf ofAll (entries w))
+totalAnswer book = summed (firstFault (totalChecks book)) (balanceOf ofAll (entries book))

@@ -29,33 +29,33 @@ unfoldable pub emptyBook : List ℕ
 emptyBook = replicate bookLength 0
 
 unfoldable pub after : List ℕ → List Op → List ℕ
-after w [] = w
-after w (sale n b q ∷ ops) = after (saleWords w (n .till) (n .sequence) b q) ops
-after w (cancel n ∷ ops) = after (cancelWords w (n .till) (n .sequence)) ops
+after book [] = book
+after book (sale n bundle q ∷ ops) = after (saleWords book (n .till) (n .sequence) bundle q) ops
+after book (cancel n ∷ ops) = after (cancelWords book (n .till) (n .sequence)) ops
 
-abbrev pub isNumber : Number → Number → Bool
-isNumber n m = eqb (m .till) (n .till) && eqb (m .sequence) (n .sequence)
+abbrev pub sameNumber : Number → Number → Bool
+sameNumber n m = eqb (m .till) (n .till) && eqb (m .sequence) (n .sequence)
 
 -- the number was booked before
 abbrev pub isIn : Number → List Number → Bool
-isIn n ns = any (isNumber n) ns
+isIn n ns = any (sameNumber n) ns
 
 -- a later operation cancels the number
 unfoldable pub cancelledIn : Number → List Op → Bool
 cancelledIn n [] = false
-cancelledIn n (sale m b q ∷ ops) = cancelledIn n ops
-cancelledIn n (cancel m ∷ ops) = isNumber m n || cancelledIn n ops
+cancelledIn n (sale m bundle q ∷ ops) = cancelledIn n ops
+cancelledIn n (cancel m ∷ ops) = sameNumber m n || cancelledIn n ops
 
 -- a sale books if its number is within its limits and new, fewer than 256 are booked, and the bundle gives it a fare
 unfoldable pub books : List Number → Number → List ℕ → Question → Bool
-books ns n b q =
-    numberInLimits (n .till) (n .sequence) && (not (isIn n ns) && (ltb (length ns) capacity && isClean (firstFault (fareChecks b q))))
+books ns n bundle q =
+    numberInLimits (n .till) (n .sequence) && (not (isIn n ns) && (ltb (length ns) capacity && isClean (firstFault (fareChecks bundle q))))
 
 -- each different number counts once, with its parts as priced at its first booking, unless it is cancelled afterwards; ns are the numbers booked before
 unfoldable pub owed : (List ℕ → List ℕ → ℕ) → List Number → List Op → ℕ
 owed f ns [] = 0
-owed f ns (sale n b q ∷ ops) =
-    cond (books ns n b q)
-    (cond (cancelledIn n ops) 0 (f (questionWords q) (partsOf (recordsOf b) q)) + owed f (ns ++ (n ∷ [])) ops)
+owed f ns (sale n bundle q ∷ ops) =
+    cond (books ns n bundle q)
+    (cond (cancelledIn n ops) 0 (f (questionWords q) (partsOf (recordsOf bundle) q)) + owed f (ns ++ (n ∷ [])) ops)
     (owed f ns ops)
 owed f ns (cancel n ∷ ops) = owed f ns ops

@@ -1,20 +1,21 @@
 // What a sale and a cancellation come to, before anything is written.
 ghost use mathlib.Core.Path.{_≡_};
-ghost use Prim.Native.Nat.{_+_, _*_, _≤_};
+ghost use Prim.Native.Nat.{_+_, _≤_};
 ghost use lib.ListN.{length};
-ghost use Rattle.book.specs.Words.{width, entryAt};
-ghost use Rattle.book.specs.Sales.{refusal, againAnswer, firstAnswer, saleAnswer, cancelAnswer};
+ghost use Rattle.book.specs.Words.{width, startOf, entryAt};
+ghost use Rattle.book.specs.Sales.{noReceipt, saleAnswer, cancelAnswer};
+ghost use Rattle.book.specs.Helpers.{againAnswer, firstAnswer};
 use super::Outcome;
 use super::Receipt;
 use super::words::ASKED;
 use super::words::CAPACITY;
-use super::words::MARK;
 use super::words::PARTS;
+use super::words::STATUS;
 use super::words::WIDTH;
 use fares::Question;
 
 fn refused(number: u8, place: usize, detail: usize) -> Receipt
-    ensures { λ r. ⌜ r ≡ refusal number place detail ⌝ }
+    ensures { λ r. ⌜ r ≡ noReceipt number place detail ⌝ }
 {
     Receipt {
         outcome: Outcome::Refused(number, place, detail),
@@ -44,7 +45,7 @@ pub fn judge_sale(book: &[u32], bundle: &[u8], till: u32, sequence: u64, q: Ques
 
 // A number that is in the book: the same sale again, or another one.
 fn sold_again(book: &[u32], place: usize, q: Question) -> Receipt
-    requires { ⌜ 1 + place * width + width ≤ length (now book) ⌝ }
+    requires { ⌜ startOf place + width ≤ length (now book) ⌝ }
     ensures { λ r. ⌜ r ≡ againAnswer (entryAt (now (book .entry)) place) place q ⌝ }
 {
     let at = 1 + place * WIDTH;
@@ -54,7 +55,7 @@ fn sold_again(book: &[u32], place: usize, q: Question) -> Receipt
         return refused(23, place, 0);
     }
     Receipt {
-        outcome: Outcome::AlreadyBooked(book[at + MARK]),
+        outcome: Outcome::AlreadyBooked(book[at + STATUS]),
         parts: super::words::parts_in(book, parts),
     }
 }
@@ -93,7 +94,7 @@ pub fn judge_cancel(book: &[u32], till: u32, sequence: u64) -> Receipt
     }
     let at = 1 + place * WIDTH;
     let parts = super::words::parts_in(book, at + PARTS);
-    if book[at + MARK] == 0 {
+    if book[at + STATUS] == 0 {
         return Receipt {
             outcome: Outcome::Cancelled,
             parts,

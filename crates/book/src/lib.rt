@@ -10,7 +10,7 @@ mod sound;
 mod sums;
 mod words;
 
-// What came of a sale or a cancellation; `AlreadyBooked` has the mark of the entry, 1 if it is cancelled.
+// What came of a sale or a cancellation; `AlreadyBooked` has the status of the entry, 1 if it is cancelled.
 pub enum Outcome {
     Booked,
     AlreadyBooked(u32),
@@ -59,7 +59,7 @@ pub fn cancel(book: &mut [u32], till: u32, sequence: u64) -> Receipt
     let receipt = judged::judge_cancel(book, till, sequence);
     let outcome = receipt.outcome;
     if let Outcome::Cancelled = outcome {
-        changes::set_mark(book, till, sequence as u32);
+        changes::cancel_entry(book, till, sequence as u32);
     }
     receipt
 }

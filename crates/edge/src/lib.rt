@@ -124,7 +124,7 @@ fn flatten_receipt(receipt: Receipt) -> ReceiptReply
     let parts = receipt.parts;
     match outcome {
         Outcome::Booked => answered(BOOKED, 0, parts),
-        Outcome::AlreadyBooked(mark) => answered(ALREADY_BOOKED, mark, parts),
+        Outcome::AlreadyBooked(status) => answered(ALREADY_BOOKED, status, parts),
         Outcome::Cancelled => answered(CANCELLED, 1, parts),
         Outcome::AlreadyCancelled => answered(ALREADY_CANCELLED, 1, parts),
         Outcome::Refused(number, place, detail) => ReceiptReply {

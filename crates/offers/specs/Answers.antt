@@ -55,7 +55,7 @@ alreadyCancelled = 4
 
 unfoldable pub outcomeTells : Outcome → List ℕ → Told
 outcomeTells Booked parts = answers (booked ∷ 0 ∷ parts)
-outcomeTells (AlreadyBooked mark) parts = answers (alreadyBooked ∷ mark ∷ parts)
+outcomeTells (AlreadyBooked status) parts = answers (alreadyBooked ∷ status ∷ parts)
 outcomeTells Cancelled parts = answers (cancelled ∷ 1 ∷ parts)
 outcomeTells AlreadyCancelled parts = answers (alreadyCancelled ∷ 1 ∷ parts)
 outcomeTells (NoEntry k p d) parts = refuses k p d (refused ∷ 0 ∷ parts)

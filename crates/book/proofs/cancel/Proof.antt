@@ -16,18 +16,18 @@ cancelled : (c : tie.After-enum-told) → let a = c .before .before .before .bef
     cancelAnswer (a .book .now) (a .till) (a .sequence) .outcome ≡ Cancelled
 cancelled c = ap (λ (r : Receipt). r .outcome) (sym (c .before .before .judge-cancel .ensures)) ∙ c .enum-told .given .1
 
-cast-set-mark : tie.Need-cast-set-mark
-cast-set-mark c =
+cancel-entry-cast : tie.Need-cast-cancel-entry
+cancel-entry-cast c =
     let a = c .before .before .before .before .before .before .args in
     omega (arith, fits-word (a .till) (a .sequence) (cancelled-sound (a .book .now) (a .till) (a .sequence) (cancelled (c .before)) .1))
 
-set-mark-requires : tie.Need-set-mark-requires
-set-mark-requires c κs = let k = cancelled-sound _ _ _ (cancelled (c .before)) in let s = is-sound _ (k .0) in (s .long, s .few, k .2)
+cancel-entry-requires : tie.Need-cancel-entry-requires
+cancel-entry-requires c κs = let k = cancelled-sound _ _ _ (cancelled (c .before)) in let s = is-sound _ (k .0) in (s .long, s .few, k .2)
 
 returns : tie.Need-returns
 returns c =
     let k = c .before .before .before .before in
-    (k .before .before .judge-cancel .ensures, c .before .before .set-mark .ensures ∙ sym (cancelled-writes _ _ _ (cancelled k)))
+    (k .before .before .judge-cancel .ensures, c .before .before .cancel-entry .ensures ∙ sym (cancelled-writes _ _ _ (cancelled k)))
 
 returns-2 : tie.Need-returns-2
 returns-2 c =
@@ -38,4 +38,4 @@ pub cancel-spec : {M : Type 1} → statement M
 cancel-spec =
     tie.close
     (tie.spec
-    (λ c κs. search needs) (λ c. search needs) cast-set-mark set-mark-requires (λ c. search needs) returns (λ c. search needs) returns-2)
+    (λ c κs. search needs) (λ c. search needs) cancel-entry-cast cancel-entry-requires (λ c. search needs) returns (λ c. search needs) returns-2)

@@ -32,7 +32,7 @@ returns c =
     let a = j .before .before .before .before .args in (
       j .judge-sale .ensures,
       c .before .before .append .ensures
-          ∙ (ap (λ r. added (a .book .now) (a .till) (a .sequence) (booking (a .till) (a .sequence) (a .q) (r .parts))) (j .judge-sale .ensures)
+          ∙ (ap (λ r. added (a .book .now) (booking (a .till) (a .sequence) (a .q) (r .parts))) (j .judge-sale .ensures)
           ∙ sym (booked-writes _ _ _ _ _ (booked k))),
     )
 

@@ -12,20 +12,21 @@ use lib.ListN.{getD}
 use borrow.Author.Tests.{eq-eqb, ne-eqb}
 use Rattle.common.specs.Least.{least}
 use Rattle.common.proofs.Least.{start, more, hit}
-use Rattle.book.specs.Words.{width, entryAt}
-use Rattle.book.specs.Sound.{sameNumber}
+use Rattle.book.specs.Words.{width, entryAt, startOf}
+use Rattle.book.specs.Sound.{hasNumber}
+use Rattle.book.specs.Helpers.{heldBefore}
 use Rattle.book.proofs.Blocks.{word-at}
 use Rattle.book.proofs.entries.find.Statement.{statement}
 use Rattle.book.proofs.entries.find.Tie as tie
 
 abbrev Inv-loop : tie.InvT-loop
-Inv-loop book n till sequence i₀ at₀ i at = (i ≤ n) × (at ≡ 1 + i * width) × (least (λ j. sameNumber till sequence (entryAt book j)) i ≡ i)
+Inv-loop book n till sequence i₀ at₀ i at = (i ≤ n) × (at ≡ startOf i) × (heldBefore book i till sequence ≡ i)
 
 abbrev μ-loop : tie.MeasureT-loop
 μ-loop book n till sequence i₀ at₀ i at = n - i
 
 -- the number of entry i, as the two words at its start
-tested : (w : List ℕ) (t s i at : ℕ) → at ≡ 1 + i * width → sameNumber t s (entryAt w i) ≡ (eqb (getD w at 0) t && eqb (getD w (at + 1) 0) s)
+tested : (w : List ℕ) (t s i at : ℕ) → at ≡ startOf i → hasNumber t s (entryAt w i) ≡ (eqb (getD w at 0) t && eqb (getD w (at + 1) 0) s)
 tested w t s i at e = rw (word-at w i 0 (omega arith), word-at w i 1 (omega arith), add-zero, ← e)
 
 loop-holds : tie.Need-loop-holds Inv-loop μ-loop
@@ -43,7 +44,7 @@ loop-again c =
     let l = c .before .before .before in
     let a = l .before .args in
     let e = tested (a .book .now) (a .till) (a .sequence) (l .loop .i) (l .loop .at) (l .loop .inv .1) in
-    let f : sameNumber (a .till) (a .sequence) (entryAt (a .book .now) (l .loop .i)) ≡ false =
+    let f : hasNumber (a .till) (a .sequence) (entryAt (a .book .now) (l .loop .i)) ≡ false =
     ⊎-elim (λ w. e ∙ rw (ne-eqb _ _ (w .2 .left))) (λ w. e ∙ rw (ne-eqb _ _ (w .left), and-false)) (c .if1 .came) in
     (omega arith, omega arith, more _ (l .loop .i) (l .loop .inv .2) f)
 

@@ -8,14 +8,15 @@ use native.Mathlib.Omega.{arith}
 use lib.Dec.{eqb, leb}
 use borrow.Author.Tests.{leb-true, eq-eqb, ne-eqb}
 use Rattle.common.proofs.Tests.{fails, holds, both-true}
-use Rattle.book.specs.Words.{countOf, entryAt}
-use Rattle.book.specs.Sound.{numberInLimits, sameNumber, soundWords}
+use Rattle.book.specs.Words.{countOf, entryAt, statusAt}
+use Rattle.book.specs.Sound.{numberInLimits, hasNumber, soundWords}
 use Rattle.book.proofs.EntryLaws.{IsSound, is-sound}
 use Rattle.book.specs.Sales.{receipt, cancelAnswer}
 use Rattle.book.specs.declared.Outcome.the-variants.{Cancelled, AlreadyCancelled}
 use Rattle.book.proofs.Blocks.{word-at}
 use Rattle.book.proofs.JudgeLaws.{parts-lent, cancel-unsound, cancel-no-number, cancel-unknown, cancel-known}
 use borrow.Author.Needs.{needs}
+use Rattle.book.specs.Helpers.{heldBefore}
 use Rattle.book.proofs.judged.judge_cancel.Statement.{statement}
 use Rattle.book.proofs.judged.judge_cancel.Tie as tie
 
@@ -39,8 +40,8 @@ small c =
 -- the answer on a number that is there
 known-answer : (c : tie.Else2) (i : ℕ) → let a = c .before .before .before .before .before .args in
     let w = a .book .now in
-    i ≡ least (λ j. sameNumber (a .till) (a .sequence) (entryAt w j)) (countOf w)
-    → i < countOf w → cancelAnswer w (a .till) (a .sequence) ≡ receipt (cond (eqb (entryAt w i .mark) 0) Cancelled AlreadyCancelled) (entryAt w i .parts)
+    i ≡ heldBefore w (countOf w) (a .till) (a .sequence)
+    → i < countOf w → cancelAnswer w (a .till) (a .sequence) ≡ receipt (cond (eqb (entryAt w i .status) 0) Cancelled AlreadyCancelled) (entryAt w i .parts)
 known-answer c i e l =
     let a = c .before .before .before .before .before .args in
     rw e (cancel-known (a .book .now) (a .till) (a .sequence) (sound (c .before .before)) (number c) (rw e at l))
@@ -92,9 +93,9 @@ returns-4 c =
     let d = f .before .before in
     let a = d .before .before .before .before .before .args in
     let w = a .book .now in
-    let m = word-at w (f .find .result) 61 (omega arith) ∙ c .if4 .taken in
+    let m = word-at w (f .find .result) statusAt (omega arith) ∙ c .if4 .taken in
     ap (receipt Cancelled) (p .parts-in .ensures ∙ parts-lent w (f .find .result))
-    ∙ sym (known-answer d (f .find .result) (f .find .ensures) (p .before .if3 .left) ∙ rw (eq-eqb (entryAt w (f .find .result) .mark) 0 m))
+    ∙ sym (known-answer d (f .find .result) (f .find .ensures) (p .before .if3 .left) ∙ rw (eq-eqb (entryAt w (f .find .result) .status) 0 m))
 
 returns-5 : tie.Need-returns-5
 returns-5 c =
@@ -103,9 +104,9 @@ returns-5 c =
     let d = f .before .before in
     let a = d .before .before .before .before .before .args in
     let w = a .book .now in
-    let m : entryAt w (f .find .result) .mark ≡ 0 → ⊥ = λ z. c .if4 .left (sym (word-at w (f .find .result) 61 (omega arith)) ∙ z) in
+    let m : entryAt w (f .find .result) .status ≡ 0 → ⊥ = λ z. c .if4 .left (sym (word-at w (f .find .result) statusAt (omega arith)) ∙ z) in
     ap (receipt AlreadyCancelled) (p .parts-in .ensures ∙ parts-lent w (f .find .result))
-    ∙ sym (known-answer d (f .find .result) (f .find .ensures) (p .before .if3 .left) ∙ rw (ne-eqb (entryAt w (f .find .result) .mark) 0 m))
+    ∙ sym (known-answer d (f .find .result) (f .find .ensures) (p .before .if3 .left) ∙ rw (ne-eqb (entryAt w (f .find .result) .status) 0 m))
 
 pub judge-cancel-spec : {M : Type 1} → statement M
 judge-cancel-spec =

@@ -8,11 +8,11 @@ use lib.Dec.{leb}
 use borrow.Author.Tests.{leb-true}
 use Rattle.common.proofs.Tests.{fails, holds, both-true}
 use Rattle.book.specs.Words.{entryAt}
-use Rattle.book.specs.Sales.{againAnswer}
 use Rattle.book.specs.Sound.{numberInLimits, soundWords}
 use Rattle.book.proofs.EntryLaws.{IsSound, is-sound}
 use Rattle.book.proofs.JudgeLaws.{sale-unsound, sale-no-number, sale-again, sale-full, sale-first}
 use borrow.Author.Needs.{needs}
+use Rattle.book.specs.Helpers.{againAnswer}
 use Rattle.book.proofs.judged.judge_sale.Statement.{statement}
 use Rattle.book.proofs.judged.judge_sale.Tie as tie
 

@@ -4,7 +4,7 @@ use mathlib.Core.Path.{sym, _∙_, ap, ap₂}
 use native.Mathlib.Omega.{arith}
 use lib.ListN.{length-take, length-drop}
 use Rattle.common.proofs.Tests.{fails, holds}
-use Rattle.book.specs.Words.{entryAt, questionWords}
+use Rattle.book.specs.Words.{entryAt, questionWords, statusAt}
 use Rattle.book.specs.Sales.{receipt}
 use Rattle.common.specs.Lists.{same}
 use Rattle.book.specs.declared.Outcome.the-variants.{AlreadyBooked}
@@ -32,7 +32,7 @@ returns-2 c =
     let a = f .before .before .before .args in
     let w = a .book .now in
     let e = f .says .ensures ∙ ap (λ x. same x (questionWords (a .q))) (asked-lent w (a .place)) in
-    let m = sym (word-at w (a .place) 61 (omega arith)) in
+    let m = sym (word-at w (a .place) statusAt (omega arith)) in
     let p = c .parts-in .ensures ∙ parts-lent w (a .place) in
     ap₂ (λ x y. receipt (AlreadyBooked x) y) m p
     ∙ sym (again-same (entryAt w (a .place)) (a .place) (a .q) (holds (f .says .result) (c .before .before .if1 .left) e))

@@ -8,7 +8,7 @@ use lib.ListN.{drop, take}
 use Rattle.common.specs.Lists.{every, upTo}
 use Rattle.common.proofs.Lists.{upto-step, upto-end}
 use Rattle.common.proofs.Tests.{fails, holds}
-use Rattle.book.specs.Words.{width, entryOf, entryAt}
+use Rattle.book.specs.Words.{width, entryOf, entryAt, startOf}
 use Rattle.book.specs.Sound.{entrySound}
 use Rattle.book.proofs.sound.entries_sound.Statement.{statement}
 use Rattle.book.proofs.sound.entries_sound.Tie as tie
@@ -24,7 +24,7 @@ told : (c : tie.After-entry-sound Inv-loop μ-loop) → let l = c .before .befor
 told c =
     let l = c .before .before .before in
     let w = l .before .before .args .book .now in
-    let at = 1 + l .loop .i * width in
+    let at = startOf (l .loop .i) in
     c .entry-sound .ensures ∙ ap (λ n. entrySound (entryOf (take n (drop at w)))) (add-sub-cancel-left at width)
 
 loop-holds : tie.Need-loop-holds Inv-loop μ-loop

@@ -1,6 +1,6 @@
 -- `book::sound::entry_sound` meets its contract.
 -- Assumes nothing.
-use Prim.Native.Nat.{_≤_}
+use Prim.Native.Nat.{_+_, _≤_}
 use mathlib.Core.Path.{_≡_, _∙_, ap}
 use mathlib.Core.Bool.{true, and-true}
 use native.Mathlib.Omega.{arith}
@@ -11,7 +11,7 @@ use borrow.Author.Tests.{le-leb, lt-leb}
 use Rattle.common.specs.Lists.{every}
 use Rattle.common.proofs.Tests.{fails, holds}
 use Rattle.fares.specs.Reductions.{partBound}
-use Rattle.book.specs.Words.{questionWidth, questionOf}
+use Rattle.book.specs.Words.{questionWidth, questionOf, countAt, askedAt, partsAt}
 use Rattle.book.specs.Sound.{isZero, numberInLimits, askedSound, entrySound}
 use Rattle.book.proofs.SoundLaws.{few-legs, count-word, unused-parts}
 use Rattle.book.proofs.sound.entry_sound.Statement.{statement}
@@ -21,19 +21,19 @@ use Rattle.book.proofs.sound.entry_sound.Tie as tie
 number-in : (c : tie.Else1) → numberInLimits (getD (c .before .before .before .before .before .args .words .now) 0 0) (getD (c .before .before .before .before .before .args .words .now) 1 0) ≡ true
 number-in c = holds (c .before .is-number .result) (c .if1 .left) (c .before .is-number .ensures)
 
-asked-in : (c : tie.Else2) → askedSound (take questionWidth (drop 2 (c .before .before .before .before .before .before .before .before .args .words .now))) ≡ true
+asked-in : (c : tie.Else2) → askedSound (take questionWidth (drop askedAt (c .before .before .before .before .before .before .before .before .args .words .now))) ≡ true
 asked-in c = holds (c .before .asked-sound .result) (c .if2 .left) (c .before .asked-sound .ensures)
 
-bounded-in : (c : tie.Else3) → every (λ p. leb p partBound) (take 8 (drop 53 (c .before .before .before .before .before .before .before .before .before .before .before .args .words .now))) ≡ true
+bounded-in : (c : tie.Else3) → every (λ p. leb p partBound) (take 8 (drop partsAt (c .before .before .before .before .before .before .before .before .before .before .before .args .words .now))) ≡ true
 bounded-in c = holds (c .before .all-bounded .result) (c .if3 .left) (c .before .all-bounded .ensures)
 
-few : (c : tie.Else2) → getD (c .before .before .before .before .before .before .before .before .args .words .now) 8 0 ≤ 8
-few c = rw (count-word (c .before .before .before .before .before .before .before .before .args .words .now)) at (few-legs (take questionWidth (drop 2 (c .before .before .before .before .before .before .before .before .args .words .now))) (asked-in c))
+few : (c : tie.Else2) → getD (c .before .before .before .before .before .before .before .before .args .words .now) (askedAt + countAt) 0 ≤ 8
+few c = rw (count-word (c .before .before .before .before .before .before .before .before .args .words .now)) at (few-legs (take questionWidth (drop askedAt (c .before .before .before .before .before .before .before .before .args .words .now))) (asked-in c))
 
-unused : (c : tie.After-all-zero) → let w = c .before .before .before .before .before .before .before .before .before .before .before .before .before .before .args .words .now in c .all-zero .result ≡ every isZero (drop (questionOf (take questionWidth (drop 2 w)) .count) (take 8 (drop 53 w)))
+unused : (c : tie.After-all-zero) → let w = c .before .before .before .before .before .before .before .before .before .before .before .before .before .before .args .words .now in c .all-zero .result ≡ every isZero (drop (questionOf (take questionWidth (drop askedAt w)) .count) (take 8 (drop partsAt w)))
 unused c = c .all-zero .ensures ∙ ap (every isZero) (unused-parts (c .before .before .before .before .before .before .before .before .before .before .before .before .before .before .args .words .now) (few (c .before .before .before .before .before .before)))
 
-zero-in : (c : tie.Else4) → let w = c .before .before .before .before .before .before .before .before .before .before .before .before .before .before .before .args .words .now in every isZero (drop (questionOf (take questionWidth (drop 2 w)) .count) (take 8 (drop 53 w))) ≡ true
+zero-in : (c : tie.Else4) → let w = c .before .before .before .before .before .before .before .before .before .before .before .before .before .before .before .args .words .now in every isZero (drop (questionOf (take questionWidth (drop askedAt w)) .count) (take 8 (drop partsAt w))) ≡ true
 zero-in c = holds (c .before .all-zero .result) (c .if4 .left) (unused (c .before))
 
 returns : tie.Need-returns

@@ -11,7 +11,7 @@ use borrow.Author.Tests.{eq-eqb, ne-eqb, le-leb, lt-leb}
 use Rattle.common.specs.Lists.{every, upTo}
 use Rattle.common.proofs.Parts.{rest-taken}
 use Rattle.common.proofs.Tests.{fails, holds}
-use Rattle.book.specs.Words.{capacity, width, bookLength, countOf, entryAt, entries}
+use Rattle.book.specs.Words.{capacity, width, bookLength, countOf, entryAt, entries, startOf}
 use Rattle.book.specs.Sound.{isZero, entrySound, numbersDiffer, soundWords}
 use Rattle.book.proofs.sound.is_sound.Statement.{statement}
 use Rattle.book.proofs.sound.is_sound.Tie as tie
@@ -53,7 +53,7 @@ returns-5 c = let d = c .before .before in
     let l = s .before .before .before .before in
     let w = l .before .before .args .book .now in
     let n = l .if1 .left in
-    let at = 1 + countOf w * width in
+    let at = startOf (countOf w) in
     rw (long l, small (s .before .before), each s, differ d, and-true) (c .all-zero .ensures ∙ ap (every isZero) (rest-taken w at (bookLength - at) (omega arith)))
 
 pub is-sound-spec : {M : Type 1} → statement M

@@ -9,7 +9,7 @@ use Rattle.common.specs.Lists.{upTo}
 use Rattle.common.proofs.Least.{start, more}
 use Rattle.book.specs.Words.{entryAt}
 use Rattle.book.specs.Sound.{repeats}
-use Rattle.book.specs.Ranks.{RanksUpTo}
+use Rattle.book.specs.Helpers.{RanksUpTo}
 use Rattle.book.proofs.SoundLaws.{repeats-at, number-repeats, none-repeats}
 use Rattle.book.proofs.RankLaws.{rank-words, ranks-none, ranks-more}
 use Rattle.book.proofs.sound.numbers_differ.Statement.{statement}

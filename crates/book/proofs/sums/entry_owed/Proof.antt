@@ -8,7 +8,7 @@ use borrow.Author.Needs.{needs}
 use borrow.Author.Tests.{eq-eqb, ne-eqb}
 use Rattle.common.specs.Lists.{sum, upTo}
 use Rattle.common.proofs.Sums.{sum-up}
-use Rattle.book.specs.Words.{entryOf}
+use Rattle.book.specs.Words.{entryOf, partsAt}
 use Rattle.book.proofs.SumLaws.{most, countedPart, leg-counts, leg-counts-not, counted-is}
 use Rattle.book.proofs.sums.entry_owed.Statement.{statement}
 use Rattle.book.proofs.sums.entry_owed.Tie as tie
@@ -28,17 +28,17 @@ unfolding sum upTo
 loop-holds c = (omega arith, omega arith, refl)
 
 cast-sum : tie.Need-cast-sum Inv-loop μ-loop
-cast-sum c = omega (arith, c .shared-slice-known4 .given (53 + c .before .before .before .before .before .loop .j))
+cast-sum c = omega (arith, c .shared-slice-known4 .given (partsAt + c .before .before .before .before .before .loop .j))
 
 add-sum-2 : tie.Need-add-sum-2 Inv-loop μ-loop
-add-sum-2 c = omega (arith, c .shared-slice-known4 .given (53 + c .before .before .before .before .before .loop .j))
+add-sum-2 c = omega (arith, c .shared-slice-known4 .given (partsAt + c .before .before .before .before .before .loop .j))
 
 loop-again : tie.Need-loop-again Inv-loop μ-loop
 loop-again c =
     let l = c .before .before .before .before in
     let a = l .before .before .before .before .args in
     let s = sum-up (countedPart (a .railway) (entryOf (a .words .now) .asked) (entryOf (a .words .now) .parts)) (l .loop .j) in
-    let n = c .before .before .shared-slice-known3 .given (53 + l .loop .j) in
+    let n = c .before .before .shared-slice-known3 .given (partsAt + l .loop .j) in
     let t = c .before .before .before .loop-test .taken in
     let e = c .before .counts .ensures in
     ⊎-elim

@@ -6,7 +6,7 @@ use native.Mathlib.Omega.{arith}
 use lib.ListN.{length, getD}
 use borrow.Author.Needs.{needs}
 use Rattle.book.specs.Words.{bookLength, capacity, countOf}
-use Rattle.book.specs.Balances.{counted}
+use Rattle.book.specs.Helpers.{counted}
 use Rattle.book.proofs.SumLaws.{most, counted-small, sound-length, sound-count, block-length, Summed, sum-start, sum-turn, sum-end}
 use Rattle.book.proofs.sums.owed.Statement.{statement}
 use Rattle.book.proofs.sums.owed.Tie as tie

@@ -1,6 +1,5 @@
 -- `book::words::leg_at` meets its contract.
 -- Assumes nothing.
-use mathlib.Core.Bool.{and-false}
 use native.Mathlib.Omega.{arith}
 use borrow.Author.Needs.{needs}
 use borrow.Author.Tests.{lt-ltb, le-ltb}
@@ -11,11 +10,7 @@ returns : tie.Need-returns
 returns c = rw (le-ltb _ _ (c .if1 .taken))
 
 returns-2 : tie.Need-returns-2
-returns-2 c = rw (le-ltb _ 8 (c .if2 .taken), and-false)
-
-returns-3 : tie.Need-returns-3
-returns-3 c = let p = c .before .before .before .before .before .args in
-    rw (lt-ltb (p .j) (p .q .count) (omega arith), lt-ltb (p .j) 8 (omega arith))
+returns-2 c = let p = c .before .before .before .before .args in rw (lt-ltb (p .j) (p .q .count) (omega arith))
 
 pub leg-at-spec : {M : Type 1} → statement M
-leg-at-spec = tie.close (tie.spec (λ c. search needs) returns returns-2 (λ c. search needs) (λ c. search needs) returns-3)
+leg-at-spec = tie.close (tie.spec (λ c. search needs) returns (λ c. search needs) (λ c. search needs) returns-2)

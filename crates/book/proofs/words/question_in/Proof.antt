@@ -3,21 +3,22 @@
 use mathlib.Core.List.{[], _∷_}
 use lib.ListN.{getD}
 use borrow.Author.Needs.{needs}
-use Rattle.book.specs.Words.{questionOf}
+use Rattle.common.specs.Lists.{upTo}
+use Rattle.book.specs.Words.{questionOf, offerAt, dayAt, personsAt, cardsAt, countAt}
 use Rattle.book.proofs.words.question_in.Statement.{statement}
 use Rattle.book.proofs.words.question_in.Tie as tie
 
 returns : tie.Need-returns
-unfolding questionOf
+unfolding questionOf upTo
 returns c =
     let w = c .before .before .before .before .before .before .before .before .before .before .before .before .before .before .args .words .now in
     λ t.
     record {
-      offer = getD w 0 0;
-      day = getD w 1 0;
-      persons = getD w 8 0;
-      card = getD w 2 0;
-      count = getD w 6 0;
+      offer = getD w offerAt 0;
+      day = getD w dayAt 0;
+      persons = getD w personsAt 0;
+      card = getD w cardsAt 0;
+      count = getD w countAt 0;
       legs = c .before .before .before .before .before .before .before .leg-in .ensures t ∷ c .before .before .before .before .before .before .leg-in2 .ensures t ∷ c .before .before .before .before .before .leg-in3 .ensures t ∷ c .before .before .before .before .leg-in4 .ensures t ∷ c .before .before .before .leg-in5 .ensures t ∷ c .before .before .leg-in6 .ensures t ∷ c .before .leg-in7 .ensures t ∷ c .leg-in8 .ensures t ∷ [];
     }
 
