@@ -125,20 +125,21 @@ pub fn question_in(words: &[u32]) -> Question
     }
 }
 
-// Whether words are those of a question.
+// Whether words are those of a question: as many are alike as there are, which a processor counts several at a time.
 pub fn says(words: &[u32], q: Question) -> bool
     requires { ⌜ length (now words) ≡ questionWidth ⌝ }
     ensures { λ r. ⌜ r ≡ same (now (words .entry)) (questionWords q) ⌝ }
 {
     let own = question_words(q);
+    let mut alike = 0;
     let mut k = 0;
     while k < QUESTION_WIDTH {
-        if words[k] != own[k] {
-            return false;
+        if words[k] == own[k] {
+            alike += 1;
         }
         k += 1;
     }
-    true
+    alike == QUESTION_WIDTH
 }
 
 // The eight words from a place on.
