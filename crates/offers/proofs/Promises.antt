@@ -39,10 +39,10 @@ use Rattle.book.specs.Balances.{ofRailway, ofAll, balanceOf, balanceChecks, tot
 use Rattle.book.specs.History.{Number, Op, sale, emptyBook, after, cancelledIn, owed}
 use Rattle.book.specs.declared.Receipt.{Receipt}
 use Rattle.book.specs.declared.Sum.{Sum}
-use Rattle.book.proofs.Owed.{balance-is-owed, always-sound}
-use Rattle.book.proofs.Totals.{total-is-sum}
-use Rattle.book.proofs.Resent.{told-first, refused-other, nothing-changes}
-use Rattle.book.proofs.JudgeLaws.{booked-parts, not-booked-stays, not-cancelled-stays}
+use Rattle.book.proofs.BalanceIsOwed.{balance-is-owed, always-sound}
+use Rattle.book.proofs.TotalIsSum.{total-is-sum}
+use Rattle.book.proofs.SentAgain.{told-first, refused-other, nothing-changes}
+use Rattle.book.proofs.AnswersByCase.{booked-parts, not-booked-stays, not-cancelled-stays}
 use Rattle.offers.specs.Answers.{answers, refuses, verdictTells, fareTells, booked, alreadyBooked, cancelled, alreadyCancelled, outcomeTells, receiptTells, sumTells}
 use Rattle.offers.specs.Answers.{Follows, Among, verdictNumbers, fareNumbers, saleNumbers, cancelNumbers, balanceNumbers, totalNumbers}
 use Rattle.offers.proofs.Orders.{verdict-follows, fare-follows, sale-follows, cancel-follows, balance-follows, total-follows}

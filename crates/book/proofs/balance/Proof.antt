@@ -5,7 +5,7 @@ use Rattle.common.specs.Checks.{firstFault}
 use Rattle.common.proofs.Tests.{fails, holds}
 use Rattle.book.specs.Words.{entries}
 use Rattle.book.specs.Balances.{balanceAnswer}
-use Rattle.book.proofs.SumLaws.{counted-railway}
+use Rattle.book.proofs.BalanceSums.{counted-railway}
 use borrow.Author.Needs.{needs}
 use Rattle.book.proofs.balance.Statement.{statement}
 use Rattle.book.proofs.balance.Tie as tie

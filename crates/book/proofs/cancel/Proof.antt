@@ -3,10 +3,10 @@
 use mathlib.Core.Path.{_≡_, sym, _∙_, ap}
 use native.Mathlib.Omega.{arith}
 use Rattle.book.specs.declared.Receipt.{Receipt}
-use Rattle.book.proofs.EntryLaws.{is-sound}
+use Rattle.book.proofs.SoundBook.{is-sound, fits-word}
 use Rattle.book.specs.Sales.{cancelAnswer}
 use Rattle.book.specs.declared.Outcome.the-variants.{Cancelled}
-use Rattle.book.proofs.JudgeLaws.{cancelled-sound, cancelled-writes, not-cancelled-stays, fits-word, other-than-cancelled}
+use Rattle.book.proofs.AnswersByCase.{cancelled-sound, cancelled-writes, not-cancelled-stays, other-than-cancelled}
 use borrow.Author.Needs.{needs}
 use Rattle.book.proofs.cancel.Statement.{statement}
 use Rattle.book.proofs.cancel.Tie as tie

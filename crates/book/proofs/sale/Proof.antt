@@ -3,11 +3,11 @@
 use mathlib.Core.Path.{_≡_, sym, _∙_, ap}
 use native.Mathlib.Omega.{arith}
 use Rattle.book.specs.declared.Receipt.{Receipt}
-use Rattle.book.proofs.EntryLaws.{is-sound}
+use Rattle.book.proofs.SoundBook.{is-sound, fits-word}
 use Rattle.book.specs.Words.{booking}
 use Rattle.book.specs.Sales.{saleAnswer, added}
 use Rattle.book.specs.declared.Outcome.the-variants.{Booked}
-use Rattle.book.proofs.JudgeLaws.{booked-sound, booked-writes, not-booked-stays, fits-word, other-than-booked}
+use Rattle.book.proofs.AnswersByCase.{booked-sound, booked-writes, not-booked-stays, other-than-booked}
 use borrow.Author.Needs.{needs}
 use Rattle.book.proofs.sale.Statement.{statement}
 use Rattle.book.proofs.sale.Tie as tie

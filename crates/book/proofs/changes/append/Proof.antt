@@ -1,13 +1,13 @@
 -- `book::changes::append` meets its contract: the number, the question, the parts and three zeros, put one behind another, are the words of the entry.
 -- Assumes nothing.
 use Prim.Native.Nat.{_+_}
-use mathlib.Core.Path.{_≡_, _∙_, ap}
+use mathlib.Core.Path.{_≡_, ap}
 use native.Mathlib.Omega.{arith}
 use lib.ListN.{length, set, length-set}
 use lib.Seq.{paste}
 use Rattle.book.specs.Words.{width, startOf, countOf, booking, wordsOf}
 use Rattle.book.specs.Sales.{added}
-use Rattle.book.proofs.Blocks.{entry-put}
+use Rattle.book.proofs.EntryWords.{entry-put}
 use borrow.Author.Needs.{needs}
 use Rattle.book.proofs.changes.append.Statement.{statement}
 use Rattle.book.proofs.changes.append.Tie as tie

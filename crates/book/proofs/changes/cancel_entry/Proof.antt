@@ -1,10 +1,10 @@
 -- `book::changes::cancel_entry` meets its contract: the word that is set is the status of the entry that is found.
 -- Assumes nothing.
-use Prim.Native.Nat.{_+_, _*_}
+use Prim.Native.Nat.{_+_}
 use mathlib.Core.Path.{ap}
 use lib.ListN.{set}
 use borrow.Author.Needs.{needs}
-use Rattle.book.specs.Words.{width, statusAt, startOf}
+use Rattle.book.specs.Words.{statusAt, startOf}
 use Rattle.book.proofs.changes.cancel_entry.Statement.{statement}
 use Rattle.book.proofs.changes.cancel_entry.Tie as tie
 

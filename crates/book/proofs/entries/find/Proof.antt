@@ -1,6 +1,6 @@
 -- `book::entries::find` meets its contract. The loop's invariant: `at` is where entry i starts, and no entry before it has the number.
 -- Assumes nothing.
-use Prim.Native.Nat.{ℕ, _+_, _-_, _*_, _≤_}
+use Prim.Native.Nat.{ℕ, _+_, _-_, _≤_}
 use mathlib.Core.Path.{_≡_, sym, _∙_}
 use mathlib.Core.Bool.{false, _&&_, and-false}
 use mathlib.Core.List.{List}
@@ -10,12 +10,11 @@ use native.Mathlib.Omega.{arith}
 use lib.Dec.{eqb}
 use lib.ListN.{getD}
 use borrow.Author.Tests.{eq-eqb, ne-eqb}
-use Rattle.common.specs.Least.{least}
 use Rattle.common.proofs.Least.{start, more, hit}
-use Rattle.book.specs.Words.{width, entryAt, startOf}
+use Rattle.book.specs.Words.{entryAt, startOf}
 use Rattle.book.specs.Sound.{hasNumber}
 use Rattle.book.specs.Helpers.{heldBefore}
-use Rattle.book.proofs.Blocks.{word-at}
+use Rattle.book.proofs.EntryWords.{word-at}
 use Rattle.book.proofs.entries.find.Statement.{statement}
 use Rattle.book.proofs.entries.find.Tie as tie
 

@@ -1,20 +1,19 @@
 -- `book::judged::judge_cancel` meets its contract.
 -- Assumes nothing.
-use Prim.Native.Nat.{ℕ, _≤_, _<_}
+use Prim.Native.Nat.{ℕ, _<_}
 use mathlib.Core.Path.{_≡_, sym, _∙_, ap}
-use mathlib.Core.Bool.{true, cond, _&&_}
-use Rattle.common.specs.Least.{least}
+use mathlib.Core.Bool.{true, cond}
 use native.Mathlib.Omega.{arith}
-use lib.Dec.{eqb, leb}
-use borrow.Author.Tests.{leb-true, eq-eqb, ne-eqb}
-use Rattle.common.proofs.Tests.{fails, holds, both-true}
+use lib.Dec.{eqb}
+use borrow.Author.Tests.{eq-eqb, ne-eqb}
+use Rattle.common.proofs.Tests.{fails, holds}
 use Rattle.book.specs.Words.{countOf, entryAt, statusAt}
-use Rattle.book.specs.Sound.{numberInLimits, hasNumber, soundWords}
-use Rattle.book.proofs.EntryLaws.{IsSound, is-sound}
+use Rattle.book.specs.Sound.{numberInLimits, soundWords}
+use Rattle.book.proofs.SoundBook.{IsSound, is-sound, fits-word}
 use Rattle.book.specs.Sales.{receipt, cancelAnswer}
 use Rattle.book.specs.declared.Outcome.the-variants.{Cancelled, AlreadyCancelled}
-use Rattle.book.proofs.Blocks.{word-at}
-use Rattle.book.proofs.JudgeLaws.{parts-lent, cancel-unsound, cancel-no-number, cancel-unknown, cancel-known}
+use Rattle.book.proofs.EntryWords.{word-at, parts-lent}
+use Rattle.book.proofs.AnswersByCase.{cancel-unsound, cancel-no-number, cancel-unknown, cancel-known}
 use borrow.Author.Needs.{needs}
 use Rattle.book.specs.Helpers.{heldBefore}
 use Rattle.book.proofs.judged.judge_cancel.Statement.{statement}
@@ -27,15 +26,9 @@ sound c = holds (c .before .is-sound .result) (c .if1 .left) (c .before .is-soun
 number : (c : tie.Else2) → numberInLimits (c .before .before .before .before .before .args .till) (c .before .before .before .before .before .args .sequence) ≡ true
 number c = holds (c .before .is-number .result) (c .if2 .left) (c .before .is-number .ensures)
 
--- the book's length and count, and a sequence that fits
+-- the book's length and count
 known : (c : tie.Else1) → IsSound (c .before .before .before .args .book .now)
 known c = is-sound (c .before .before .before .args .book .now) (sound c)
-
-small : (c : tie.Else2) → c .before .before .before .before .before .args .sequence ≤ 4294967295
-small c =
-    let t = c .before .before .before .before .before .args .till in
-    let s = c .before .before .before .before .before .args .sequence in
-    leb-true s 4294967295 (both-true (leb 1 s) (leb s 4294967295) (both-true (leb 1 t && leb t 65535) (leb 1 s && leb s 4294967295) (number c) .1) .1)
 
 -- the answer on a number that is there
 known-answer : (c : tie.Else2) (i : ℕ) → let a = c .before .before .before .before .before .args in
@@ -113,5 +106,5 @@ judge-cancel-spec =
     tie.close
     (tie.spec
     (λ c κs. search needs) (λ c κs. search needs) returns (λ c κs. search needs) (λ c κs. search needs) returns-2 shared-slice-read-count
-    (λ c. omega (arith, c .shared-slice-known2 .given 0)) (λ c. omega (arith, small (c .before))) find-requires (λ c κs. search needs)
+    (λ c. omega (arith, c .shared-slice-known2 .given 0)) (λ c. let a = c .before .before .before .before .before .before .args in omega (arith, fits-word (a .till) (a .sequence) (number (c .before)))) find-requires (λ c κs. search needs)
     returns-3 mul-at add-at add-parts-in parts-in-requires add-if4 mul-if4 shared-slice-read-if4 returns-4 returns-5)

@@ -1,16 +1,13 @@
 -- `book::judged::judge_sale` meets its contract.
 -- Assumes nothing.
-use Prim.Native.Nat.{_≤_}
 use mathlib.Core.Path.{_≡_, sym, _∙_, ap}
-use mathlib.Core.Bool.{true, _&&_}
+use mathlib.Core.Bool.{true}
 use native.Mathlib.Omega.{arith}
-use lib.Dec.{leb}
-use borrow.Author.Tests.{leb-true}
-use Rattle.common.proofs.Tests.{fails, holds, both-true}
+use Rattle.common.proofs.Tests.{fails, holds}
 use Rattle.book.specs.Words.{entryAt}
 use Rattle.book.specs.Sound.{numberInLimits, soundWords}
-use Rattle.book.proofs.EntryLaws.{IsSound, is-sound}
-use Rattle.book.proofs.JudgeLaws.{sale-unsound, sale-no-number, sale-again, sale-full, sale-first}
+use Rattle.book.proofs.SoundBook.{IsSound, is-sound, fits-word}
+use Rattle.book.proofs.AnswersByCase.{sale-unsound, sale-no-number, sale-again, sale-full, sale-first}
 use borrow.Author.Needs.{needs}
 use Rattle.book.specs.Helpers.{againAnswer}
 use Rattle.book.proofs.judged.judge_sale.Statement.{statement}
@@ -23,15 +20,9 @@ sound c = holds (c .before .is-sound .result) (c .if1 .left) (c .before .is-soun
 number : (c : tie.Else2) → numberInLimits (c .before .before .before .before .before .before .args .till) (c .before .before .before .before .before .before .args .sequence) ≡ true
 number c = holds (c .before .is-number .result) (c .if2 .left) (c .before .is-number .ensures)
 
--- the book's length and count, and a sequence that fits
+-- the book's length and count
 known : (c : tie.Else1) → IsSound (c .before .before .before .before .args .book .now)
 known c = is-sound (c .before .before .before .before .args .book .now) (sound c)
-
-small : (c : tie.Else2) → c .before .before .before .before .before .before .args .sequence ≤ 4294967295
-small c =
-    let t = c .before .before .before .before .before .before .args .till in
-    let s = c .before .before .before .before .before .before .args .sequence in
-    leb-true s 4294967295 (both-true (leb 1 s) (leb s 4294967295) (both-true (leb 1 t && leb t 65535) (leb 1 s && leb s 4294967295) (number c) .1) .1)
 
 returns : tie.Need-returns
 returns c = let f = c .before in c .refused .ensures ∙ sym (sale-unsound _ _ _ _ _ (fails (f .before .is-sound .result) (f .if1 .taken) (f .before .is-sound .ensures)))
@@ -79,5 +70,5 @@ judge-sale-spec =
     tie.close
     (tie.spec
     (λ c κs. search needs) (λ c κs. search needs) returns (λ c κs. search needs) (λ c κs. search needs) returns-2 shared-slice-read-count
-    (λ c. omega (arith, c .shared-slice-known3 .given 0)) (λ c. omega (arith, small (c .before))) find-requires sold-again-requires
+    (λ c. omega (arith, c .shared-slice-known3 .given 0)) (λ c. let a = c .before .before .before .before .before .before .before .args in omega (arith, fits-word (a .till) (a .sequence) (number (c .before)))) find-requires sold-again-requires
     returns-3 (λ c κs. search needs) returns-4 (λ c κs. search needs) returns-5)

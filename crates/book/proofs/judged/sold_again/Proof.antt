@@ -8,8 +8,8 @@ use Rattle.book.specs.Words.{entryAt, questionWords, statusAt}
 use Rattle.book.specs.Sales.{receipt}
 use Rattle.common.specs.Lists.{same}
 use Rattle.book.specs.declared.Outcome.the-variants.{AlreadyBooked}
-use Rattle.book.proofs.Blocks.{word-at}
-use Rattle.book.proofs.JudgeLaws.{asked-lent, parts-lent, again-other, again-same}
+use Rattle.book.proofs.EntryWords.{word-at, asked-lent, parts-lent}
+use Rattle.book.proofs.AnswersByCase.{again-other, again-same}
 use borrow.Author.Needs.{needs}
 use Rattle.book.proofs.judged.sold_again.Statement.{statement}
 use Rattle.book.proofs.judged.sold_again.Tie as tie

@@ -2,7 +2,7 @@
 -- Assumes nothing.
 use mathlib.Core.Path.{sym, _∙_, ap}
 use Rattle.book.specs.declared.Outcome.the-variants.{Booked}
-use Rattle.book.proofs.JudgeLaws.{quote-refused, quote-priced}
+use Rattle.book.proofs.AnswersByCase.{quote-refused, quote-priced}
 use borrow.Author.Needs.{needs}
 use Rattle.book.proofs.judged.sold_first.Statement.{statement}
 use Rattle.book.proofs.judged.sold_first.Tie as tie

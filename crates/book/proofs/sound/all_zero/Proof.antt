@@ -1,14 +1,14 @@
 -- `book::sound::all_zero` meets its contract. The loop's invariant: the sum is that of the words passed, each of them small.
 -- Assumes nothing.
-use Prim.Native.Nat.{_+_, _-_, _*_, _≤_}
-use mathlib.Core.Path.{_≡_, refl, sym, _∙_, ap}
+use Prim.Native.Nat.{_-_, _*_, _≤_}
+use mathlib.Core.Path.{_≡_, refl, _∙_, ap}
 use native.Mathlib.Omega.{arith}
 use lib.Dec.{eqb}
 use lib.ListN.{length, take}
 use lib.Seq.{take-all}
 use Rattle.common.specs.Lists.{sum}
-use Rattle.book.proofs.SoundLaws.{sum-taken, zero-sum}
-use Rattle.book.proofs.SumLaws.{most}
+use Rattle.common.proofs.Sums.{sum-taken, zero-sum}
+use Rattle.book.proofs.SoundBook.{most}
 use Rattle.book.proofs.sound.all_zero.Statement.{statement}
 use Rattle.book.proofs.sound.all_zero.Tie as tie
 

@@ -13,7 +13,8 @@ use Rattle.common.proofs.Tests.{fails, holds}
 use Rattle.fares.specs.Reductions.{partBound}
 use Rattle.book.specs.Words.{questionWidth, questionOf, countAt, askedAt, partsAt}
 use Rattle.book.specs.Sound.{isZero, numberInLimits, askedSound, entrySound}
-use Rattle.book.proofs.SoundLaws.{few-legs, count-word, unused-parts}
+use Rattle.book.proofs.EntryWords.{count-at, unused-parts}
+use Rattle.book.proofs.SoundBook.{few-legs}
 use Rattle.book.proofs.sound.entry_sound.Statement.{statement}
 use Rattle.book.proofs.sound.entry_sound.Tie as tie
 
@@ -28,10 +29,12 @@ bounded-in : (c : tie.Else3) → every (λ p. leb p partBound) (take 8 (drop par
 bounded-in c = holds (c .before .all-bounded .result) (c .if3 .left) (c .before .all-bounded .ensures)
 
 few : (c : tie.Else2) → getD (c .before .before .before .before .before .before .before .before .args .words .now) (askedAt + countAt) 0 ≤ 8
-few c = rw (count-word (c .before .before .before .before .before .before .before .before .args .words .now)) at (few-legs (take questionWidth (drop askedAt (c .before .before .before .before .before .before .before .before .args .words .now))) (asked-in c))
+few c = rw (count-at (c .before .before .before .before .before .before .before .before .args .words .now)) at (few-legs (take questionWidth (drop askedAt (c .before .before .before .before .before .before .before .before .args .words .now))) (asked-in c))
 
 unused : (c : tie.After-all-zero) → let w = c .before .before .before .before .before .before .before .before .before .before .before .before .before .before .args .words .now in c .all-zero .result ≡ every isZero (drop (questionOf (take questionWidth (drop askedAt w)) .count) (take 8 (drop partsAt w)))
-unused c = c .all-zero .ensures ∙ ap (every isZero) (unused-parts (c .before .before .before .before .before .before .before .before .before .before .before .before .before .before .args .words .now) (few (c .before .before .before .before .before .before)))
+unused c =
+    let w = c .before .before .before .before .before .before .before .before .before .before .before .before .before .before .args .words .now in
+    c .all-zero .ensures ∙ rw (count-at w) (ap (every isZero) (unused-parts w (getD w (askedAt + countAt) 0) (few (c .before .before .before .before .before .before))))
 
 zero-in : (c : tie.Else4) → let w = c .before .before .before .before .before .before .before .before .before .before .before .before .before .before .before .args .words .now in every isZero (drop (questionOf (take questionWidth (drop askedAt w)) .count) (take 8 (drop partsAt w))) ≡ true
 zero-in c = holds (c .before .all-zero .result) (c .if4 .left) (unused (c .before))

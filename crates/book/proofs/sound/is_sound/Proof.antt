@@ -1,6 +1,6 @@
 -- `book::sound::is_sound` meets its contract: the tests in the order of the definition.
 -- Assumes nothing.
-use Prim.Native.Nat.{_+_, _-_, _*_}
+use Prim.Native.Nat.{_-_}
 use mathlib.Core.Path.{_≡_, _∙_, ap}
 use mathlib.Core.Bool.{true, and-true}
 use native.Mathlib.Omega.{arith}
@@ -11,7 +11,7 @@ use borrow.Author.Tests.{eq-eqb, ne-eqb, le-leb, lt-leb}
 use Rattle.common.specs.Lists.{every, upTo}
 use Rattle.common.proofs.Parts.{rest-taken}
 use Rattle.common.proofs.Tests.{fails, holds}
-use Rattle.book.specs.Words.{capacity, width, bookLength, countOf, entryAt, entries, startOf}
+use Rattle.book.specs.Words.{capacity, bookLength, countOf, entryAt, entries, startOf}
 use Rattle.book.specs.Sound.{isZero, entrySound, numbersDiffer, soundWords}
 use Rattle.book.proofs.sound.is_sound.Statement.{statement}
 use Rattle.book.proofs.sound.is_sound.Tie as tie

@@ -10,8 +10,7 @@ use Rattle.common.proofs.Least.{start, more}
 use Rattle.book.specs.Words.{entryAt}
 use Rattle.book.specs.Sound.{repeats}
 use Rattle.book.specs.Helpers.{RanksUpTo}
-use Rattle.book.proofs.SoundLaws.{repeats-at, number-repeats, none-repeats}
-use Rattle.book.proofs.RankLaws.{rank-words, ranks-none, ranks-more}
+use Rattle.book.proofs.NumbersDiffer.{repeats-at, number-repeats, none-repeats, rank-words, ranks-none, ranks-more}
 use Rattle.book.proofs.sound.numbers_differ.Statement.{statement}
 use Rattle.book.proofs.sound.numbers_differ.Tie as tie
 

@@ -1,12 +1,11 @@
 -- `book::sound::repeats_earlier` meets its contract.
 -- Assumes nothing.
-use Prim.Native.Nat.{_<_}
-use mathlib.Core.Path.{_≡_, sym, _∙_}
+use mathlib.Core.Path.{sym}
 use native.Mathlib.Nat.{add-zero}
 use native.Mathlib.Omega.{arith}
 use borrow.Author.Needs.{needs}
-use Rattle.book.proofs.Blocks.{word-at}
-use Rattle.book.proofs.RankLaws.{rank-words, above-none}
+use Rattle.book.proofs.EntryWords.{word-at}
+use Rattle.book.proofs.NumbersDiffer.{rank-words, above-none}
 use Rattle.book.proofs.sound.repeats_earlier.Statement.{statement}
 use Rattle.book.proofs.sound.repeats_earlier.Tie as tie
 

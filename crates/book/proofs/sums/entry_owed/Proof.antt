@@ -9,7 +9,8 @@ use borrow.Author.Tests.{eq-eqb, ne-eqb}
 use Rattle.common.specs.Lists.{sum, upTo}
 use Rattle.common.proofs.Sums.{sum-up}
 use Rattle.book.specs.Words.{entryOf, partsAt}
-use Rattle.book.proofs.SumLaws.{most, countedPart, leg-counts, leg-counts-not, counted-is}
+use Rattle.book.proofs.SoundBook.{most}
+use Rattle.book.proofs.BalanceSums.{countedPart, leg-counts, leg-counts-not, counted-is}
 use Rattle.book.proofs.sums.entry_owed.Statement.{statement}
 use Rattle.book.proofs.sums.entry_owed.Tie as tie
 

@@ -2,10 +2,8 @@
 -- Assumes nothing.
 use Prim.Native.Nat.{_-_, _≤_}
 use mathlib.Core.Path.{_≡_, _∙_, ap}
-use mathlib.Core.List.{flatMap}
 use native.Mathlib.Omega.{arith}
 use borrow.Author.Needs.{needs}
-use Rattle.common.specs.Lists.{upTo}
 use Rattle.book.proofs.QuestionWords.{written, none-written, leg-written, all-written}
 use Rattle.book.proofs.words.question_words.Statement.{statement}
 use Rattle.book.proofs.words.question_words.Tie as tie

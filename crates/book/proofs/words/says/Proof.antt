@@ -15,7 +15,7 @@ use borrow.Author.Tests.{eq-eqb, ne-eqb}
 use Rattle.common.specs.Lists.{same}
 use Rattle.common.proofs.Lists.{is-same, same-is}
 use Rattle.common.proofs.Tests.{never}
-use Rattle.book.specs.Words.{questionWidth, questionWords}
+use Rattle.book.specs.Words.{questionWidth}
 use Rattle.book.proofs.QuestionWords.{words-length}
 use Rattle.book.proofs.words.says.Statement.{statement}
 use Rattle.book.proofs.words.says.Tie as tie

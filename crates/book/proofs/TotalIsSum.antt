@@ -1,84 +1,26 @@
 -- The total is the sum of the balances of all railways.
 -- Assumes nothing.
-use Prim.Native.Nat.{ℕ, zero, suc, _+_, _-_, _*_, _≤_, _<_}
+use Prim.Native.Nat.{ℕ, _+_, _-_, _≤_, _<_}
 use mathlib.Core.Path.{_≡_, refl, sym, _∙_, ap, ap₂}
 use mathlib.Core.Bool.{Bool, true, false, cond}
-use mathlib.Core.List.{List, [], _∷_, _++_}
-use mathlib.Core.Logic.{_⊎_, inl, inr, ⊎-elim}
+use mathlib.Core.List.{List, [], _∷_}
+use mathlib.Core.Logic.{_⊎_, ⊎-elim}
 use native.Mathlib.Omega.{arith}
 use lib.Dec.{eqb, leb}
 use lib.ListN.{getD, drop}
 use lib.Seq.{getD-drop}
-use borrow.Author.Tests.{eq-eqb, ne-eqb, eqb-true, leb-true}
+use borrow.Author.Tests.{leb-true}
 use Rattle.common.specs.Lists.{sum, every, upTo}
-use Rattle.common.proofs.Tests.{side, both-true}
-use Rattle.common.proofs.Lists.{every-at, upto-at, upto-same, first-length, first-at}
-use Rattle.common.proofs.Sums.{sum-append}
+use Rattle.common.proofs.Tests.{side, both-true, either-way}
+use Rattle.common.proofs.Lists.{every-at, zero-at, upto-at, upto-same, first-length, first-at}
+use Rattle.common.proofs.Sums.{sum-both, sum-nothing, sum-swapped, hits, one-hit}
 use Rattle.fares.specs.Question.{noLeg, legsOf, legInLimits, between, inLimits, limitsOf}
 use Rattle.fares.specs.declared.Question.{Question}
 use Rattle.fares.proofs.FareLaws.{asked as asked-of}
 use Rattle.book.specs.Words.{Entry, entries, questionOf, railwayAt, fareAt, legOf}
-use Rattle.book.specs.Sound.{isZero, entrySound, soundWords}
+use Rattle.book.specs.Sound.{entrySound, soundWords}
 use Rattle.book.specs.Balances.{legPart, ofRailway, ofAll, liveAmount, balanceOf}
-use Rattle.book.proofs.Kept.{passed}
-use Rattle.book.proofs.EntryLaws.{is-sound}
-
--- SUMS, added and swapped
-sum-both : (f g : ℕ → ℕ) (n : ℕ) → sum (upTo (λ r. f r + g r) n) ≡ sum (upTo f n) + sum (upTo g n)
-unfolding upTo sum
-sum-both f g zero = refl
-sum-both f g (suc n) =
-    omega (arith, sum-append (upTo (λ r. f r + g r) n) ((f n + g n) ∷ []), sum-append (upTo f n) (f n ∷ []), sum-append (upTo g n) (g n ∷ []), sum-both f g n)
-
-sum-nothing : (n : ℕ) → sum (upTo (λ r. 0) n) ≡ 0
-unfolding upTo sum
-sum-nothing zero = refl
-sum-nothing (suc n) = omega (arith, sum-append (upTo (λ r. 0) n) (0 ∷ []), sum-nothing n)
-
-sum-swapped : (f : ℕ → ℕ → ℕ) (m n : ℕ) → sum (upTo (λ r. sum (upTo (f r) m)) n) ≡ sum (upTo (λ j. sum (upTo (λ r. f r j) n)) m)
-unfolding upTo sum
-sum-swapped f zero n = sum-nothing n
-sum-swapped f (suc m) n =
-    ap sum (upto-same (λ r. sum (upTo (f r) m ++ (f r m ∷ []))) (λ r. sum (upTo (f r) m) + f r m) n (λ r l. sum-append (upTo (f r) m) (f r m ∷ []) ∙ omega arith))
-    ∙ (sum-both (λ r. sum (upTo (f r) m)) (λ r. f r m) n
-    ∙ omega (arith, sum-swapped f m n, sum-append (upTo (λ j. sum (upTo (λ r. f r j) n)) m) (sum (upTo (λ r. f r m) n) ∷ [])))
-
--- over all numbers 1 to n, one hit counts once
-abbrev hits : ℕ → ℕ → ℕ → ℕ
-hits x p r = cond (eqb x (r + 1)) p 0
-
-one-more : (x p n : ℕ) → sum (upTo (hits x p) (suc n)) ≡ sum (upTo (hits x p) n) + hits x p n
-unfolding upTo sum
-one-more x p n = sum-append (upTo (hits x p) n) (hits x p n ∷ []) ∙ omega arith
-
-no-hit : (x p n : ℕ) → n < x → sum (upTo (hits x p) n) ≡ 0
-unfolding upTo sum
-no-hit x p zero l = refl
-no-hit x p (suc n) l =
-    let z : hits x p n ≡ 0 = rw (ne-eqb x (n + 1) (λ e. omega arith)) in
-    omega (arith, one-more x p n, no-hit x p n (omega arith))
-
-one-hit-by : (x p n : ℕ) → 1 ≤ x → x ≤ suc n → (x ≤ n → sum (upTo (hits x p) n) ≡ p) → (x < suc n) ⊎ (suc n ≤ x) → sum (upTo (hits x p) (suc n)) ≡ p
-one-hit-by x p n a b ih (inl h) =
-    let z : hits x p n ≡ 0 = rw (ne-eqb x (n + 1) (λ e. omega arith)) in
-    omega (arith, one-more x p n, ih (omega arith))
-one-hit-by x p n a b ih (inr h) =
-    let z : hits x p n ≡ p = rw (eq-eqb x (n + 1) (omega arith)) in
-    omega (arith, one-more x p n, no-hit x p n (omega arith))
-
-one-hit : (x p n : ℕ) → 1 ≤ x → x ≤ n → sum (upTo (hits x p) n) ≡ p
-one-hit x p zero a b = absurd (omega arith)
-one-hit x p (suc n) a b = one-hit-by x p n a b (one-hit x p n a) (side x (suc n))
-
-same-both : (b : Bool) (x : ℕ) → cond b x x ≡ x
-same-both true x = refl
-same-both false x = refl
-
-zero-at : (xs : List ℕ) → every isZero xs ≡ true → (i : ℕ) → getD xs i 0 ≡ 0
-unfolding every
-zero-at [] z i = refl
-zero-at (x ∷ xs) z zero = eqb-true x 0 (both-true (eqb x 0) (every isZero xs) z .0)
-zero-at (x ∷ xs) z (suc i) = zero-at xs (both-true (eqb x 0) (every isZero xs) z .1) i
+use Rattle.book.proofs.SoundBook.{sound-entry, asked-limits, is-sound}
 
 nothing-owed : (n : ℕ) → sum (upTo (λ r. balanceOf (ofRailway (r + 1)) []) n) ≡ balanceOf ofAll []
 unfolding balanceOf sum
@@ -101,7 +43,7 @@ module _ (e : Entry) (g : entrySound e ≡ true) where
   q = questionOf asked
 
   in-limits : inLimits q ≡ true
-  in-limits = both-true (inLimits q) _ (passed e g 1 (omega arith)) .0
+  in-limits = asked-limits asked (sound-entry e g .asked-well)
 
   few : q .count ≤ 8
   few = asked-of q in-limits .few
@@ -118,7 +60,7 @@ module _ (e : Entry) (g : entrySound e ≡ true) where
   unused : (j : ℕ) → q .count ≤ j → getD (e .parts) j 0 ≡ 0
   unused j l =
       let k : q .count + (j - q .count) ≡ j = omega arith in
-      let z : getD (drop (q .count) (e .parts)) (j - q .count) 0 ≡ 0 = zero-at (drop (q .count) (e .parts)) (passed e g 3 (omega arith)) (j - q .count) in
+      let z : getD (drop (q .count) (e .parts)) (j - q .count) 0 ≡ 0 = zero-at (drop (q .count) (e .parts)) (sound-entry e g .unused) (j - q .count) in
       ap (λ i. getD (e .parts) i 0) (sym k) ∙ (sym (getD-drop (q .count) (e .parts) (j - q .count) 0) ∙ z)
 
   abbrev railway : ℕ → ℕ
@@ -135,7 +77,7 @@ module _ (e : Entry) (g : entrySound e ≡ true) where
       not-used : q .count ≤ j → sum (upTo (hits (railway j) (getD (e .parts) j 0)) 9999) ≡ getD (e .parts) j 0
       not-used l =
           let z = unused j l in
-          ap (λ p. sum (upTo (hits (railway j) p) 9999)) z ∙ (ap sum (upto-same (hits (railway j) 0) (λ r. 0) 9999 (λ r m. same-both (eqb (railway j) (r + 1)) 0)) ∙ (sum-nothing 9999 ∙ sym z))
+          ap (λ p. sum (upTo (hits (railway j) p) 9999)) z ∙ (ap sum (upto-same (hits (railway j) 0) (λ r. 0) 9999 (λ r m. either-way (eqb (railway j) (r + 1)) 0)) ∙ (sum-nothing 9999 ∙ sym z))
 
   entry-whole : sum (upTo (λ r. ofRailway (r + 1) asked (e .parts)) 9999) ≡ ofAll asked (e .parts)
   entry-whole =

@@ -1,6 +1,6 @@
--- What a sale and a cancellation do to a sound book's entries.
+-- What a sale and a cancellation do to the entries of a sound book: a sale that the history says books adds one, a cancellation cancels that of its number.
 -- Assumes nothing.
-use Prim.Native.Nat.{ℕ, zero, suc, _+_, _-_, _*_, _≤_, _<_}
+use Prim.Native.Nat.{ℕ, zero, suc, _+_, _-_, _≤_, _<_}
 use mathlib.Core.Path.{_≡_, refl, sym, _∙_, ap}
 use mathlib.Core.Bool.{Bool, true, false, cond, not, _&&_, _||_}
 use mathlib.Core.List.{List, [], _∷_, _++_, map}
@@ -9,13 +9,12 @@ use native.Mathlib.Omega.{arith}
 use lib.Dec.{eqb, leb, ltb}
 use lib.ListN.{length, getD, drop, set, replicate, length-append, length-map, length-replicate, length-set}
 use lib.Seq.{drop-at, drop-set-lt, getD-set-other}
-use borrow.Author.Tests.{eqb-true, le-leb, lt-leb, lt-ltb, le-ltb, ltb-false, ltb-true, leb-true, not-true, not-false}
-use Rattle.common.specs.Least.{least}
+use borrow.Author.Tests.{le-leb, lt-leb, lt-ltb, le-ltb, ltb-false, ltb-true, leb-true, not-true, not-false}
 use Rattle.common.specs.Lists.{every, any, same}
 use Rattle.common.specs.Checks.{Finding, clean, fault, Check, check, firstFault}
 use Rattle.common.proofs.Tests.{side, never, both-true}
-use Rattle.common.proofs.Least.{within, before}
-use Rattle.common.proofs.Lists.{every-at, every-append, any-least, first-length}
+use Rattle.common.proofs.Least.{within}
+use Rattle.common.proofs.Lists.{every-at, every-append, every-by, every-replicate, any-least, first-length, map-fixed}
 use Rattle.common.proofs.Sums.{map-at}
 use Rattle.common.proofs.Checks.{append-clean, one-clean}
 use Rattle.bundle.specs.Records.{recordsOf}
@@ -26,19 +25,18 @@ use Rattle.fares.specs.Legs.{partOf}
 use Rattle.fares.specs.Fare.{partsOf, priceChecks, fareChecks}
 use Rattle.fares.specs.declared.Question.{Question}
 use Rattle.fares.proofs.FareLaws.{asked, part-small}
-use Rattle.book.specs.Words.{Entry, noEntry, capacity, width, countOf, entries, questionWords, booking, statusAt, startOf}
+use Rattle.book.specs.Words.{Entry, noEntry, capacity, countOf, entries, questionWords, booking, statusAt, startOf}
 use Rattle.book.specs.Sound.{isZero, numberInLimits, entrySound, hasNumber, heldAt}
 use Rattle.book.specs.Sales.{isClean, place, isPresent, present, saleChecks, isBooked, added, saleWords, cancelChecks, isCancelled, cancelWords}
 use Rattle.book.specs.History.{Number, isIn, books}
-use Rattle.book.proofs.Blocks.{cancelledEntry, Whole}
-use Rattle.book.proofs.EntryLaws.{IsSound, sound-is, entry-is, entries-length, entries-cancelled, entries-added}
+use Rattle.book.proofs.EntryWords.{cancelledEntry, Whole}
+use Rattle.book.proofs.NumbersDiffer.{has-number, held-only}
+use Rattle.book.proofs.SoundBook.{IsSound, sound-is, sound-entry, entry-is, entries-length}
+use Rattle.book.proofs.ChangedEntries.{entries-cancelled, entries-added}
 use Rattle.book.proofs.QuestionWords.{words-length}
-use Rattle.book.proofs.Kept.{cancelling, booking-sound, added-sound, passed, set-is-map, none-cancelled, cancelling-keeps, only-place}
+use Rattle.book.proofs.StaysSound.{cancelling, saleNumberOf, booking-sound, added-sound, set-is-map, cancelling-keeps}
 
--- the number of an entry, and those of a book
-abbrev pub saleNumberOf : Entry → Number
-saleNumberOf e = record { till = e .till; sequence = e .sequence }
-
+-- the numbers of a book
 abbrev pub saleNumbersOf : List Entry → List Number
 saleNumbersOf es = map saleNumberOf es
 
@@ -85,21 +83,6 @@ books-is w s n b q =
     x ∙ rw (not-full (length (entries w)) capacity, present-is w n, ← length-map (entries w) saleNumberOf)
 
 -- what a sale that books has: a question within its limits, and parts within the bound, zero from the leg count on
-every-by : {A : Type 0} (p : A → Bool) (d : A) (xs : List A) → ((i : ℕ) → i < length xs → p (getD xs i d) ≡ true) → every p xs ≡ true
-unfolding every
-every-by p d [] f = refl
-every-by p d (x ∷ xs) f = rw (f 0 (omega arith)) (every-by p d xs (λ i l. f (suc i) (omega arith)))
-
-pub all-zeros : (k : ℕ) → every isZero (replicate k 0) ≡ true
-unfolding every
-all-zeros zero = refl
-all-zeros (suc k) = all-zeros k
-
-zeros-small : (k : ℕ) → every (λ p. leb p partBound) (replicate k 0) ≡ true
-unfolding every
-zeros-small zero = refl
-zeros-small (suc k) = zeros-small k
-
 module _ (b : List ℕ) (q : Question) (c : firstFault (fareChecks b q) ≡ clean) where
   pub priced-in-limits : inLimits q ≡ true
   unfolding fareChecks priceChecks
@@ -122,7 +105,7 @@ module _ (b : List ℕ) (q : Question) (c : firstFault (fareChecks b q) ≡ clea
 
   pub parts-clear : every isZero (drop (q .count) parts) ≡ true
   unfolding partsOf
-  parts-clear = rw (drop-at own (replicate (8 - q .count) 0) (q .count) own-length) (all-zeros (8 - q .count))
+  parts-clear = rw (drop-at own (replicate (8 - q .count) 0) (q .count) own-length) (every-replicate isZero 0 refl (8 - q .count))
 
   own-small : every (λ p. leb p partBound) own ≡ true
   own-small =
@@ -132,7 +115,7 @@ module _ (b : List ℕ) (q : Question) (c : firstFault (fareChecks b q) ≡ clea
 
   pub parts-small : every (λ p. leb p partBound) parts ≡ true
   unfolding partsOf
-  parts-small = every-append (λ p. leb p partBound) own (replicate (8 - q .count) 0) ∙ rw own-small (zeros-small (8 - q .count))
+  parts-small = every-append (λ p. leb p partBound) own (replicate (8 - q .count) 0) ∙ rw own-small (every-replicate (λ p. leb p partBound) 0 refl (8 - q .count))
 
 clean-by : (f : Finding) → isClean f ≡ true → f ≡ clean
 clean-by clean e = refl
@@ -238,52 +221,34 @@ module _ (w : List ℕ) (s : IsSound w) (t u : ℕ) where
   -- any other leaves the entries as they are, which is what cancelling does to them
   already-cancelled : (e : Entry) → entrySound e ≡ true → (e .status ≡ 0 → ⊥) → cancelledEntry e ≡ e
   already-cancelled e g n =
-      let m : 1 ≡ e .status = omega (arith, leb-true (e .status) 1 (passed e g 4 (omega arith)), one-at-least (e .status) n) in
+      let m : 1 ≡ e .status = one (e .status) n (leb-true (e .status) 1 (sound-entry e g .live-or-not)) in
       λ i. record { till = e .till; sequence = e .sequence; asked = e .asked; parts = e .parts; status = m i; spare = e .spare }
     where
-      one-at-least : (k : ℕ) → (k ≡ 0 → ⊥) → 1 ≤ k
-      one-at-least zero h = absurd (h refl)
-      one-at-least (suc k) h = omega arith
+      one : (k : ℕ) → (k ≡ 0 → ⊥) → k ≤ 1 → 1 ≡ k
+      one zero h l = absurd (h refl)
+      one (suc k) h l = omega arith
 
   good-at : (j : ℕ) → j < length es → entrySound (getD es j noEntry) ≡ true
   good-at j l = every-at entrySound es (s .good) j noEntry l
 
-  abbrev Stays : ℕ → Type 0
-  Stays j = cancelling t u (getD es j noEntry) ≡ getD es j noEntry
-
-  by-number : (j : ℕ) → j < length es → (b : Bool) → hasNumber t u (getD es j noEntry) ≡ b → (b ≡ true → cancelledEntry (getD es j noEntry) ≡ getD es j noEntry) → Stays j
-  by-number j l true e f = rw e (f refl)
-  by-number j l false e f = rw e
-
-  -- an entry of the number is at the number's place, in a book whose numbers differ, and its number is within the limits
+  -- an entry of the number is where the number is held, and its number is within the limits
   in-limits : (j : ℕ) → j < length es → hasNumber t u (getD es j noEntry) ≡ true → numberInLimits t u ≡ true
   in-limits j l h =
       let e = getD es j noEntry in
-      let b = both-true (eqb (e .till) t) (eqb (e .sequence) u) h in
-      rw (eqb-true (e .till) t (b .0), eqb-true (e .sequence) u (b .1)) at (passed e (good-at j l) 0 (omega arith))
+      let n = has-number t u e h in
+      rw (n .0, n .1) at (sound-entry e (good-at j l) .number)
 
   pub at-place : (j : ℕ) → j < length es → hasNumber t u (getD es j noEntry) ≡ true → (isPresent w t u ≡ true) × (place w t u ≡ j)
-  unfolding heldAt
-  at-place j l h =
-      let p : ℕ → Bool = λ k. hasNumber t u (getD es k noEntry) in
-      let m : least p (length es) ≤ j = not-after j l h in
-      (lt-ltb (least p (length es)) (length es) (omega arith), same-place j l h m)
+  at-place j l h = let p = held-only t u es (s .differ) j l h in (lt-ltb (place w t u) (length es) (omega arith), p)
+
+  stays : isCancelled w t u ≡ false → (j : ℕ) → j < length es → cancelling t u (getD es j noEntry) ≡ getD es j noEntry
+  stays c j l = by-number (hasNumber t u (getD es j noEntry)) refl
     where
-      not-after : (k : ℕ) → k < length es → hasNumber t u (getD es k noEntry) ≡ true → least (λ i. hasNumber t u (getD es i noEntry)) (length es) ≤ k
-      not-after k g e =
-          ⊎-elim (λ x. never e (before (λ i. hasNumber t u (getD es i noEntry)) (length es) k x)) (λ x. x)
-          (side k (least (λ i. hasNumber t u (getD es i noEntry)) (length es)))
-
-      same-place : (k : ℕ) → k < length es → hasNumber t u (getD es k noEntry) ≡ true → least (λ i. hasNumber t u (getD es i noEntry)) (length es) ≤ k
-          → least (λ i. hasNumber t u (getD es i noEntry)) (length es) ≡ k
-      same-place k g e m = only-place t u es (s .differ) k g e m
-
-  stays : isCancelled w t u ≡ false → (j : ℕ) → j < length es → Stays j
-  stays c j l =
-      by-number j l (hasNumber t u (getD es j noEntry)) refl
-      (λ h. let p = at-place j l h in
-      already-cancelled (getD es j noEntry) (good-at j l)
-      (λ z. never (rw (in-limits j l h, p .0, p .1, z) refl) (sym cancels ∙ c)))
+      by-number : (b : Bool) → hasNumber t u (getD es j noEntry) ≡ b → cond b (cancelledEntry (getD es j noEntry)) (getD es j noEntry) ≡ getD es j noEntry
+      by-number false h = refl
+      by-number true h =
+          let p = at-place j l h in
+          already-cancelled (getD es j noEntry) (good-at j l) (λ z. never (rw (in-limits j l h, p .0, p .1, z) refl) (sym cancels ∙ c))
 
   pub cancel-after : After (cancelWords w t u)
   unfolding cancelWords
@@ -293,4 +258,4 @@ module _ (w : List ℕ) (s : IsSound w) (t u : ℕ) where
       go true e =
           let b = both-true (numberInLimits t u && isPresent w t u) (eqb (present w t u .status) 0) (sym cancels ∙ e) in
           sets-status (both-true (numberInLimits t u) (isPresent w t u) (b .0) .1)
-      go false e = (sym (none-cancelled t u es (stays e)), s)
+      go false e = (sym (map-fixed (cancelling t u) noEntry es (stays e)), s)

@@ -1,73 +1,24 @@
--- What a sound book says, and what an entry added and one cancelled do to its entries.
+-- What an entry added and one cancelled do to the entries of a sound book.
 -- Assumes nothing.
-use Prim.Native.Nat.{ℕ, zero, suc, _+_, _-_, _*_, _≤_, _<_}
-use mathlib.Core.Path.{_≡_, refl, sym, _∙_, ap, ap₂}
-use mathlib.Core.Bool.{Bool, true}
+use Prim.Native.Nat.{ℕ, _+_, _-_, _*_, _≤_, _<_}
+use mathlib.Core.Path.{_≡_, sym, _∙_, ap, ap₂}
+use mathlib.Core.Bool.{true}
 use mathlib.Core.List.{List, [], _∷_, _++_}
 use mathlib.Core.Logic.{_⊎_, inl, inr, ⊎-elim}
 use native.Mathlib.Omega.{arith}
-use lib.Dec.{eqb, leb}
 use lib.ListN.{length, getD, drop, set, length-set, length-take, length-drop}
 use lib.Seq.{ext-getD, getD-set-same, getD-set-other, drop-set-lt, drop-drop, paste}
-use borrow.Author.Tests.{eqb-true, leb-true, eq-eqb, le-leb}
 use Rattle.common.specs.Lists.{every}
-use Rattle.common.proofs.Tests.{order, both-true}
-use Rattle.common.proofs.Lists.{every-at, upto-length, upto-at, upto-same, upto-more}
-use Rattle.book.specs.Words.{Entry, noEntry, entryOf, entryAt, capacity, width, questionWidth, bookLength, countOf, entries, wordsOf, statusAt, startOf}
-use Rattle.book.specs.Sound.{isZero, entrySound, numbersDiffer, soundWords}
+use Rattle.common.proofs.Tests.{order}
+use Rattle.common.proofs.Lists.{upto-same, upto-more}
+use Rattle.book.specs.Words.{Entry, noEntry, entryOf, entryAt, capacity, width, bookLength, countOf, entries, wordsOf, statusAt, startOf}
+use Rattle.book.specs.Sound.{isZero}
 use Rattle.book.specs.Sales.{added}
-use Rattle.book.proofs.Blocks.{block, cancelledEntry, store-before, store-in, store-after, status-set, added-before, added-there, added-behind, added-length, Whole, words-back}
+use Rattle.book.proofs.EntryWords.{block, cancelledEntry, store-before, store-in, store-after, status-set, added-before, added-there, added-behind, added-length, Whole, words-back}
+use Rattle.common.proofs.Lists.{every-drop}
+use Rattle.book.proofs.SoundBook.{IsSound, entry-is, entries-length}
 
--- SOUND, test by test
-pub record IsSound (w : List ℕ) : Type 0 where
-  pub long : length w ≡ bookLength
-  pub few : countOf w ≤ capacity
-  pub good : every entrySound (entries w) ≡ true
-  pub differ : numbersDiffer (entries w) ≡ true
-  pub clear : every isZero (drop (startOf (countOf w)) w) ≡ true
-
-abbrev tests : List ℕ → List Bool
-tests w =
-    eqb (length w) bookLength ∷
-    leb (countOf w) capacity ∷
-    every entrySound (entries w) ∷
-    numbersDiffer (entries w) ∷
-    every isZero (drop (startOf (countOf w)) w) ∷
-    []
-
-pub is-sound : (w : List ℕ) → soundWords w ≡ true → IsSound w
-unfolding soundWords
-is-sound w e =
-    let t : (k : ℕ) → k < 5 → getD (tests w) k true ≡ true = λ k l. every-at (λ b. b) (tests w) e k true l in
-    record {
-      long = eqb-true (length w) bookLength (t 0 (omega arith));
-      few = leb-true (countOf w) capacity (t 1 (omega arith));
-      good = t 2 (omega arith);
-      differ = t 3 (omega arith);
-      clear = t 4 (omega arith);
-    }
-
-pub sound-is : (w : List ℕ) → IsSound w → soundWords w ≡ true
-unfolding soundWords every
-sound-is w s = rw (eq-eqb (length w) bookLength (s .long), le-leb (countOf w) capacity (s .few), s .good, s .differ, s .clear)
-
-pub every-drop : {A : Type 0} (p : A → Bool) (xs : List A) (k : ℕ) → every p xs ≡ true → every p (drop k xs) ≡ true
-unfolding every
-every-drop p [] zero e = refl
-every-drop p [] (suc k) e = refl
-every-drop p (x ∷ xs) zero e = e
-every-drop p (x ∷ xs) (suc k) e = every-drop p xs k (both-true (p x) (every p xs) e .1)
-
--- an entry by its number
-pub entry-is : (w : List ℕ) (i : ℕ) → i < countOf w → getD (entries w) i noEntry ≡ entryAt w i
-unfolding entries
-entry-is w i l = upto-at (entryAt w) (countOf w) i noEntry l
-
-pub entries-length : (w : List ℕ) → length (entries w) ≡ countOf w
-unfolding entries
-entries-length w = upto-length (entryAt w) (countOf w)
-
--- A STATUS SET
+-- ONE CANCELLED
 module _ (w : List ℕ) (s : IsSound w) (i : ℕ) (l : i < countOf w) where
   abbrev w′ : List ℕ
   w′ = set w (startOf i + statusAt) 1

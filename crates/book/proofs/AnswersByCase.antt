@@ -1,7 +1,7 @@
 -- What the answers on a sale and a cancellation come to, test by test: the laws that the functions which judge them cite.
 -- Assumes nothing.
-use Prim.Native.Nat.{ℕ, _+_, _-_, _*_, _≤_, _<_}
-use mathlib.Core.Path.{_≡_, refl, sym, _∙_, ap, ap₂, subst}
+use Prim.Native.Nat.{ℕ, _+_, _-_, _≤_, _<_}
+use mathlib.Core.Path.{_≡_, refl, _∙_, ap, ap₂, subst}
 use mathlib.Core.Bool.{Bool, true, false, cond, not, _&&_}
 use mathlib.Core.List.{List, [], _∷_}
 use native.Mathlib.Omega.{arith}
@@ -9,21 +9,17 @@ use mathlib.Core.Logic.{⊎-elim}
 use types.Run.{OneOf}
 use denote.Enum.Declared.{tagOf}
 use lib.Dec.{eqb, leb}
-use lib.ListN.{length, getD, take, drop, set}
-use lib.Seq.{take-take, drop-drop}
-use borrow.Author.Tests.{lt-ltb, le-ltb, le-leb, lt-leb, leb-true, leb-false, ltb-true, not-false}
-use Rattle.common.specs.Least.{least}
+use lib.ListN.{length, getD, set}
+use borrow.Author.Tests.{lt-ltb, le-ltb, le-leb, lt-leb, leb-false, ltb-true, not-false}
 use Rattle.common.specs.Lists.{same}
 use Rattle.common.specs.Checks.{Finding, clean, fault, check, firstFault}
-use Rattle.common.proofs.Tests.{both-true}
 use Rattle.common.proofs.Checks.{one-clean}
 use Rattle.common.proofs.Least.{alike}
-use Rattle.common.proofs.Parts.{part-rest}
 use Rattle.bundle.specs.Records.{recordsOf}
 use Rattle.fares.specs.Fare.{partsOf, fareChecks, quoted, fareOf}
 use Rattle.fares.specs.declared.Question.{Question}
 use Rattle.fares.specs.declared.Pricing.the-variants.{Priced, Refused as NoFare}
-use Rattle.book.specs.Words.{Entry, noEntry, entryAt, capacity, width, countOf, entries, questionWords, booking, questionWidth, askedAt, partsAt, statusAt, startOf}
+use Rattle.book.specs.Words.{Entry, noEntry, entryAt, capacity, countOf, entries, questionWords, booking, statusAt, startOf}
 use Rattle.book.specs.Sound.{numberInLimits, hasNumber, heldAt, soundWords}
 use Rattle.book.specs.Sales.{noReceipt, receipt, unlessFault, isClean, place, isPresent, present, saleChecks, saleAnswer, isBooked, added, saleWords, cancelChecks, cancelAnswer, isCancelled, cancelWords}
 use Rattle.book.specs.declared.Outcome.{Outcome}
@@ -31,16 +27,7 @@ use Rattle.book.specs.declared.Outcome.the-variants.{Booked, AlreadyBook
 use Rattle.book.specs.declared.Receipt.{Receipt}
 use Rattle.book.specs.Helpers.{heldBefore, againAnswer, firstAnswer}
 use Rattle.book.proofs.Outcome.{the-type}
-use Rattle.book.proofs.Blocks.{block}
-use Rattle.book.proofs.EntryLaws.{entry-is, entries-length}
-
--- some words of an entry, as words of the book
-pub sub-block : (w : List ℕ) (i k m : ℕ) → k + m ≤ width → take m (drop k (block w i)) ≡ take m (drop (startOf i + k) w)
-sub-block w i k m l =
-    let e : width ≡ k + (width - k) = omega arith in
-    let r = part-rest k (width - k) (drop (startOf i) w) in
-    ap (λ n. take m (drop k (take n (drop (startOf i) w)))) e
-    ∙ (ap (take m) r ∙ (take-take m (width - k) (drop k (drop (startOf i) w)) (omega arith) ∙ ap (take m) (drop-drop k (startOf i) w)))
+use Rattle.book.proofs.SoundBook.{entry-is, entries-length}
 
 -- the place of a number, by the entries at their places
 pub place-is : (w : List ℕ) (t s : ℕ) → heldAt t s (entries w) ≡ heldBefore w (countOf w) t s
@@ -136,15 +123,6 @@ module _ (b : List ℕ) (q : Question) where
   pub quote-priced : fareOf b q .outcome ≡ Priced → firstAnswer b q ≡ receipt Booked (fareOf b q .parts)
   unfolding fareOf firstAnswer
   quote-priced e = by-price (firstFault (fareChecks b q)) (partsOf (recordsOf b) q) e
-
--- an entry's question, parts and status, as they stand in the book
-pub asked-lent : (w : List ℕ) (i : ℕ) → take ((startOf i + partsAt) - (startOf i + askedAt)) (drop (startOf i + askedAt) w) ≡ entryAt w i .asked
-asked-lent w i =
-    let n : (startOf i + partsAt) - (startOf i + askedAt) ≡ questionWidth = omega arith in
-    rw n (sym (sub-block w i askedAt questionWidth (omega arith)))
-
-pub parts-lent : (w : List ℕ) (i : ℕ) → take 8 (drop (startOf i + partsAt) w) ≡ entryAt w i .parts
-parts-lent w i = sym (sub-block w i partsAt 8 (omega arith))
 
 module _ (e : Entry) (i : ℕ) (q : Question) where
   pub again-other : same (e .asked) (questionWords q) ≡ false → againAnswer e i q ≡ noReceipt 23 i 0
@@ -248,11 +226,6 @@ module _ (w : List ℕ) (t s : ℕ) where
     pub cancelled-writes : cancelWords w t s ≡ set w (startOf (heldBefore w (countOf w) t s) + statusAt) 1
     unfolding cancelWords isCancelled
     cancelled-writes = rw (told-cancel .0, told-cancel .1, place-is w t s)
-
--- a sequence within its limits is one word
-pub fits-word : (t s : ℕ) → numberInLimits t s ≡ true → s ≤ 4294967295
-fits-word t s n =
-    leb-true s 4294967295 (both-true (leb 1 s) (leb s 4294967295) (both-true (leb 1 t && leb t 65535) (leb 1 s && leb s 4294967295) n .1) .1)
 
 -- an outcome that is none of these
 pub other-than-booked : (o : Outcome) → OneOf (1 ∷ 2 ∷ 3 ∷ 4 ∷ []) (tagOf the-type o) → o ≡ Booked → ⊥

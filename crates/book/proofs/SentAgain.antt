@@ -10,6 +10,7 @@ use lib.ListN.{length, getD, length-append, length-map, List·getD-append}
 use lib.Seq.{getD-at}
 use borrow.Author.Tests.{eq-eqb}
 use Rattle.common.specs.Lists.{same}
+use Rattle.common.proofs.Sums.{map-at}
 use Rattle.bundle.specs.Records.{recordsOf}
 use Rattle.fares.specs.Fare.{partsOf}
 use Rattle.fares.specs.declared.Question.{Question}
@@ -19,12 +20,12 @@ use Rattle.book.specs.Sales.{isPresent, present, place, saleAnswer, sale
 use Rattle.book.specs.declared.Outcome.the-variants.{Booked, AlreadyBooked}
 use Rattle.book.specs.History.{Number, Op, sale, cancel, emptyBook, after, cancelledIn, books}
 use Rattle.book.specs.Helpers.{againAnswer}
-use Rattle.book.proofs.Blocks.{cancelledEntry}
-use Rattle.book.proofs.EntryLaws.{IsSound, sound-is}
-use Rattle.book.proofs.Kept.{cancelling, mapped-at}
-use Rattle.book.proofs.SaleLaws.{saleNumberOf, saleNumbersOf, books-is, not-booked, sale-entries, sale-sound, cancel-after, books-number, at-place}
-use Rattle.book.proofs.Owed.{stays-sound, empty-sound}
-use Rattle.book.proofs.JudgeLaws.{present-again, booked-is, again-same, again-other}
+use Rattle.book.proofs.EntryWords.{cancelledEntry}
+use Rattle.book.proofs.SoundBook.{IsSound, sound-is}
+use Rattle.book.proofs.StaysSound.{cancelling, saleNumberOf, same-number}
+use Rattle.book.proofs.SaleAndCancel.{saleNumbersOf, books-is, not-booked, sale-entries, sale-sound, cancel-after, books-number, at-place}
+use Rattle.book.proofs.BalanceIsOwed.{stays-sound, empty-sound}
+use Rattle.book.proofs.AnswersByCase.{present-again, booked-is, again-same, again-other}
 
 -- an entry once booked: where it is, and cancelled if an operation cancels its number
 abbrev later : Entry → List Op → Entry
@@ -39,10 +40,6 @@ cancelled-twice true true e = refl
 cancelled-twice true false e = refl
 cancelled-twice false true e = refl
 cancelled-twice false false e = refl
-
-same-number : (c : Bool) (e : Entry) → saleNumberOf (cond c (cancelledEntry e) e) ≡ saleNumberOf e
-same-number true e = refl
-same-number false e = refl
 
 -- a sale leaves it there
 module _ (ops : List Op) (w : List ℕ) (s : IsSound w) (i : ℕ) (e : Entry) (h : Stands w i e) (n : Number) (b : List ℕ) (q : Question)
@@ -68,7 +65,7 @@ persists (cancel n ∷ ops) w s i e h =
     let g : Stands (cancelWords w (n .till) (n .sequence)) i x =
     record {
       inside = rw (c .0, length-map (entries w) (cancelling (n .till) (n .sequence))) (h .inside);
-      is = rw (c .0) (mapped-at (cancelling (n .till) (n .sequence)) (entries w) i (h .inside) ∙ ap (cancelling (n .till) (n .sequence)) (h .is));
+      is = rw (c .0) (map-at (cancelling (n .till) (n .sequence)) (entries w) i noEntry noEntry (h .inside) ∙ ap (cancelling (n .till) (n .sequence)) (h .is));
     } in
     let r = persists ops (cancelWords w (n .till) (n .sequence)) (c .1) i x g in
     let m : later x ops ≡ later e (cancel n ∷ ops) =

@@ -1,22 +1,65 @@
--- The words of an entry as a part of the book's, and the entries in use.
+-- The words of an entry as a part of the book's: read there, changed there, and put there. An entry and its words say each other.
 -- Assumes nothing.
-use Prim.Native.Nat.{ℕ, _+_, _*_, _≤_, _<_}
+use Prim.Native.Nat.{ℕ, _+_, _-_, _*_, _≤_, _<_}
 use mathlib.Core.Path.{_≡_, refl, sym, _∙_, ap}
 use mathlib.Core.List.{List, [], _∷_, _++_, append-assoc}
-use native.Mathlib.Nat.{add-zero, add-assoc}
+use native.Mathlib.Nat.{add-zero, add-assoc, add-sub-cancel-left}
 use native.Mathlib.Omega.{arith}
 use lib.ListN.{length, getD, take, drop, set, replicate, length-append, length-drop, take-append-drop}
-use lib.Seq.{getD-take, getD-drop, drop-cons, drop-drop, drop-set-lt, drop-set-add, take-set-lt, take-set-le, getD-set-same, getD-set-other, drop-append-le, take-append-le, take-at, drop-at, take-all, length-take-le, take-append-add, paste, take-paste, drop-paste, length-paste}
+use lib.Seq.{getD-take, getD-drop, drop-cons, drop-drop, drop-set-lt, drop-set-add, take-set-lt, take-set-le, getD-set-same, getD-set-other, take-take, take-at, drop-at, take-all, length-take-le, take-append-add, paste, take-paste, drop-paste, length-paste}
+use Rattle.common.proofs.Lists.{part-front}
+use Rattle.common.proofs.Parts.{part-rest}
 use Rattle.fares.specs.declared.Question.{Question}
-use Rattle.book.specs.Words.{Entry, askedAt, partsAt, statusAt, spareAt, width, questionWidth, questionWords, entryOf, wordsOf, booking, startOf}
+use Rattle.book.specs.Words.{Entry, countAt, legsAt, legWidth, railwayAt, questionOf, entryAt, askedAt, partsAt, statusAt, spareAt, tillAt, sequenceAt, width, questionWidth, questionWords, entryOf, wordsOf, booking, startOf}
 use Rattle.book.proofs.QuestionWords.{words-length}
-
--- word k of entry i
-pub word-at : (w : List ℕ) (i k : ℕ) → k < width → getD (take width (drop (startOf i) w)) k 0 ≡ getD w (startOf i + k) 0
-word-at w i k l = getD-take width (drop (startOf i) w) k 0 l ∙ getD-drop (startOf i) w k 0
 
 abbrev pub block : List ℕ → ℕ → List ℕ
 block w i = take width (drop (startOf i) w)
+
+-- READ: word k of entry i, some of its words, and all of them, as the code lends them
+pub word-at : (w : List ℕ) (i k : ℕ) → k < width → getD (block w i) k 0 ≡ getD w (startOf i + k) 0
+word-at w i k l = getD-take width (drop (startOf i) w) k 0 l ∙ getD-drop (startOf i) w k 0
+
+part-of : (w : List ℕ) (i k m : ℕ) → k + m ≤ width → take m (drop (startOf i + k) w) ≡ take m (drop k (block w i))
+part-of w i k m l =
+    let e : width ≡ k + (width - k) = omega arith in
+    let r = part-rest k (width - k) (drop (startOf i) w) in
+    sym
+    (ap (λ n. take m (drop k (take n (drop (startOf i) w)))) e
+    ∙ (ap (take m) r ∙ (take-take m (width - k) (drop k (drop (startOf i) w)) (omega arith) ∙ ap (take m) (drop-drop k (startOf i) w))))
+
+pub asked-lent : (w : List ℕ) (i : ℕ) → take ((startOf i + partsAt) - (startOf i + askedAt)) (drop (startOf i + askedAt) w) ≡ entryAt w i .asked
+asked-lent w i =
+    let n : (startOf i + partsAt) - (startOf i + askedAt) ≡ questionWidth = omega arith in
+    rw n (part-of w i askedAt questionWidth (omega arith))
+
+pub parts-lent : (w : List ℕ) (i : ℕ) → take 8 (drop (startOf i + partsAt) w) ≡ entryAt w i .parts
+parts-lent w i = part-of w i partsAt 8 (omega arith)
+
+pub block-lent : (w : List ℕ) (i : ℕ) → take (startOf i + width - startOf i) (drop (startOf i) w) ≡ block w i
+block-lent w i = ap (λ n. take n (drop (startOf i) w)) (add-sub-cancel-left (startOf i) width)
+
+-- in words that are an entry's: a part, the railway of a leg, the leg count, and the parts from there on
+pub part-at : (b : List ℕ) (j : ℕ) → j < 8 → getD (take 8 (drop partsAt b)) j 0 ≡ getD b (partsAt + j) 0
+part-at b j l = getD-take 8 (drop partsAt b) j 0 l ∙ getD-drop partsAt b j 0
+
+asked-at : (b : List ℕ) (k : ℕ) → k < questionWidth → getD (take questionWidth (drop askedAt b)) k 0 ≡ getD b (askedAt + k) 0
+asked-at b k l = getD-take questionWidth (drop askedAt b) k 0 l ∙ getD-drop askedAt b k 0
+
+pub railway-at : (b : List ℕ) (j : ℕ) → j < 8 → getD (take questionWidth (drop askedAt b)) (railwayAt j) 0 ≡ getD b (askedAt + legsAt + legWidth * j) 0
+railway-at b j l =
+    let e : askedAt + railwayAt j ≡ askedAt + legsAt + legWidth * j = omega arith in
+    asked-at b (railwayAt j) (omega arith) ∙ ap (λ k. getD b k 0) e
+
+pub count-at : (b : List ℕ) → questionOf (take questionWidth (drop askedAt b)) .count ≡ getD b (askedAt + countAt) 0
+unfolding questionOf
+count-at b = asked-at b countAt (omega arith)
+
+pub unused-parts : (b : List ℕ) (n : ℕ) → n ≤ 8 → take (statusAt - (partsAt + n)) (drop (partsAt + n) b) ≡ drop n (take 8 (drop partsAt b))
+unused-parts b n l =
+    let m : statusAt - (partsAt + n) ≡ 8 - n = omega arith in
+    let e : n + (8 - n) ≡ 8 = omega arith in
+    rw (m, ← drop-drop n partsAt b) (sym (rw e at (part-rest n (8 - n) (drop partsAt b))))
 
 -- A STORE: a block that the place is not in stays as it was,
 module _ (w : List ℕ) (v : ℕ) where
@@ -35,18 +78,17 @@ cancelledEntry e = record { till = e .till; sequence = e .sequence; asked = e .a
 
 pub status-set : (b : List ℕ) → statusAt < length b → entryOf (set b statusAt 1) ≡ cancelledEntry (entryOf b)
 status-set b l =
-    let a : take questionWidth (drop askedAt (set b statusAt 1)) ≡ take questionWidth (drop askedAt b) = ap (take questionWidth) (drop-set-add askedAt b (questionWidth + 8) 1) ∙ take-set-le questionWidth (drop askedAt b) (questionWidth + 8) 1 (omega arith) in
-    let p : take 8 (drop partsAt (set b statusAt 1)) ≡ take 8 (drop partsAt b) = ap (take 8) (drop-set-add partsAt b 8 1) ∙ take-set-le 8 (drop partsAt b) 8 1 (omega arith) in
+    let a : take questionWidth (drop askedAt (set b statusAt 1)) ≡ take questionWidth (drop askedAt b) =
+    ap (take questionWidth) (drop-set-add askedAt b (questionWidth + 8) 1) ∙ take-set-le questionWidth (drop askedAt b) (questionWidth + 8) 1 (omega arith) in
+    let p : take 8 (drop partsAt (set b statusAt 1)) ≡ take 8 (drop partsAt b) =
+    ap (take 8) (drop-set-add partsAt b 8 1) ∙ take-set-le 8 (drop partsAt b) 8 1 (omega arith) in
     let z : take 2 (drop spareAt (set b statusAt 1)) ≡ take 2 (drop spareAt b) = ap (take 2) (drop-set-lt spareAt b statusAt 1 (omega arith)) in
-    let t : getD (set b statusAt 1) 0 0 ≡ getD b 0 0 = getD-set-other b statusAt 0 1 0 (λ e. omega arith) in
-    let s : getD (set b statusAt 1) 1 0 ≡ getD b 1 0 = getD-set-other b statusAt 1 1 0 (λ e. omega arith) in
+    let t : getD (set b statusAt 1) tillAt 0 ≡ getD b tillAt 0 = getD-set-other b statusAt tillAt 1 0 (λ e. omega arith) in
+    let s : getD (set b statusAt 1) sequenceAt 0 ≡ getD b sequenceAt 0 = getD-set-other b statusAt sequenceAt 1 0 (λ e. omega arith) in
     let m : getD (set b statusAt 1) statusAt 0 ≡ 1 = getD-set-same b statusAt 1 0 l in
     λ j. record { till = t j; sequence = s j; asked = a j; parts = p j; status = m j; spare = z j }
 
 -- AN ENTRY ADDED: what stands in front of it, it itself, and what stands behind.
-front : (p q : List ℕ) (a k : ℕ) → a + k ≤ length p → take k (drop a (p ++ q)) ≡ take k (drop a p)
-front p q a k l = rw (drop-append-le a p q (omega arith)) (take-append-le k (drop a p) q (rw length-drop (omega arith)))
-
 module _ (w : List ℕ) (n : ℕ) (ws : List ℕ) (fits : startOf n + width ≤ length w) (long : length ws ≡ width) where
   abbrev at : ℕ
   at = startOf n
@@ -64,8 +106,8 @@ module _ (w : List ℕ) (n : ℕ) (ws : List ℕ) (fits : startOf n + width ≤ 
   added-before i l =
       let a : (startOf i) + width ≤ length (take at w) = rw head-length (omega arith) in
       ap (λ l. block l i) opened
-      ∙ front (take at w) (take width ws ++ drop (at + width) w) (startOf i) width a
-      ∙ sym (rw (take-append-drop at w) at (front (take at w) (drop at w) (startOf i) width a))
+      ∙ part-front (take at w) (take width ws ++ drop (at + width) w) (startOf i) width a
+      ∙ sym (rw (take-append-drop at w) at (part-front (take at w) (drop at w) (startOf i) width a))
 
   pub added-there : block pasted n ≡ ws
   added-there =

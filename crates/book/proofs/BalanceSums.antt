@@ -7,32 +7,17 @@ use mathlib.Core.List.{List, [], _∷_, map, map-append}
 use native.Mathlib.Numerals.{add-one}
 use native.Mathlib.Omega.{arith}
 use lib.Dec.{eqb, leb}
-use lib.ListN.{length, getD, take, drop, length-take, length-drop}
-use lib.Seq.{getD-take, getD-drop}
-use borrow.Author.Tests.{ne-eqb, eqb-true, leb-true}
+use lib.ListN.{getD, take, drop}
+use borrow.Author.Tests.{ne-eqb, leb-true}
 use Rattle.common.specs.Lists.{sum, upTo}
-use Rattle.common.proofs.Lists.{every-at}
 use Rattle.common.proofs.Sums.{sum-append, sum-up-small}
 use Rattle.common.proofs.Tests.{both-true}
 use Rattle.fares.specs.Question.{between}
-use Rattle.book.specs.Words.{Entry, width, questionWidth, capacity, bookLength, countOf, railwayAt, entryOf, entryAt, entries, askedAt, partsAt, startOf, legsAt, legWidth}
-use Rattle.book.specs.Sound.{soundWords}
+use Rattle.book.specs.Words.{Entry, width, countOf, railwayAt, entryOf, entryAt, entries, askedAt, partsAt, startOf, legsAt, legWidth}
 use Rattle.book.specs.Balances.{ofRailway, ofAll, liveAmount, balanceOf}
 use Rattle.book.specs.Helpers.{counted}
-use Rattle.book.proofs.Blocks.{word-at}
-
--- the largest word
-abbrev pub most : ℕ
-most = 4294967295
-
--- A WORD OF AN ENTRY: part j, and the railway of leg j
-pub part-at : (b : List ℕ) (j : ℕ) → j < 8 → getD (take 8 (drop partsAt b)) j 0 ≡ getD b (partsAt + j) 0
-part-at b j l = getD-take 8 (drop partsAt b) j 0 l ∙ getD-drop partsAt b j 0
-
-pub railway-at : (b : List ℕ) (j : ℕ) → j < 8 → getD (take questionWidth (drop askedAt b)) (railwayAt j) 0 ≡ getD b (askedAt + legsAt + legWidth * j) 0
-railway-at b j l =
-    let e : askedAt + railwayAt j ≡ askedAt + legsAt + legWidth * j = omega arith in
-    getD-take questionWidth (drop askedAt b) (railwayAt j) 0 (omega arith) ∙ (getD-drop askedAt b (railwayAt j) 0 ∙ ap (λ k. getD b k 0) e)
+use Rattle.book.proofs.SoundBook.{most}
+use Rattle.book.proofs.EntryWords.{block, word-at, block-lent, part-at, railway-at}
 
 -- what leg j of an entry comes to for a railway, or for all: its part if it counts, and else nothing
 abbrev pub countedPart : ℕ → List ℕ → List ℕ → ℕ → ℕ
@@ -71,7 +56,7 @@ Small w f = (i : ℕ) → f (entryAt w i .asked) (entryAt w i .parts) ≤ mostOf
 module _ (w : List ℕ) (words-small : (k : ℕ) → getD w k 0 ≤ most) where
   part-small : (i j : ℕ) → j < 8 → getD (entryAt w i .parts) j 0 ≤ most
   part-small i j l =
-      rw (part-at (take width (drop (startOf i) w)) j l, word-at w i (partsAt + j) (omega arith)) (words-small (startOf i + (partsAt + j)))
+      rw (part-at (block w i) j l, word-at w i (partsAt + j) (omega arith)) (words-small (startOf i + (partsAt + j)))
 
   pub counted-small : (railway : ℕ) → Small w (counted railway)
   counted-small railway i =
@@ -100,24 +85,6 @@ counted-railway railway es h =
     let l = leb-true 1 railway (both-true (leb 1 railway) (leb railway 9999) h .0) in
     ap (λ b. balanceOf (λ asked parts. cond b (ofAll asked parts) (ofRailway railway asked parts)) es) (ne-eqb railway 0 (λ e. omega (arith, l, e)))
 
--- WHAT A SOUND BOOK has: its length, and few enough entries
-sound-at : (w : List ℕ) → soundWords w ≡ true → (eqb (length w) bookLength ≡ true) × (leb (countOf w) capacity ≡ true)
-unfolding soundWords
-sound-at w e = (every-at (λ b. b) _ e 0 true (omega arith), every-at (λ b. b) _ e 1 true (omega arith))
-
-pub sound-length : (w : List ℕ) → soundWords w ≡ true → length w ≡ bookLength
-sound-length w e = eqb-true _ _ (sound-at w e .0)
-
-pub sound-count : (w : List ℕ) → soundWords w ≡ true → countOf w ≤ capacity
-sound-count w e = leb-true _ _ (sound-at w e .1)
-
--- the part of the book that is entry i
-pub block : (w : List ℕ) (i : ℕ) → take (startOf i + width - (startOf i)) (drop (startOf i) w) ≡ take width (drop (startOf i) w)
-block w i = let e : startOf i + width - (startOf i) ≡ width = omega arith in rw e
-
-pub block-length : (w : List ℕ) (i : ℕ) → startOf i + width ≤ length w → length (take (startOf i + width - (startOf i)) (drop (startOf i) w)) ≡ width
-block-length w i l = rw (block w i, length-take, length-drop) (omega arith)
-
 -- THE SUM over the entries before i, and its turn: what entry i comes to is added
 abbrev pub Summed : (List ℕ → List ℕ → ℕ) → List ℕ → ℕ → ℕ → Type 0
 Summed f w i total = (total ≤ i * mostOf) × (total ≡ balanceOf f (upTo (entryAt w) i))
@@ -130,7 +97,7 @@ module _ (f : List ℕ → List ℕ → ℕ) (w : List ℕ) where
       → r ≡ liveAmount f (entryOf (take (startOf i + width - (startOf i)) (drop (startOf i) w)))
       → Summed f w (i + 1) (total + r)
   sum-turn s i total r t e =
-      let d : r ≡ liveAmount f (entryAt w i) = e ∙ ap (λ b. liveAmount f (entryOf b)) (block w i) in
+      let d : r ≡ liveAmount f (entryAt w i) = e ∙ ap (λ b. liveAmount f (entryOf b)) (block-lent w i) in
       (omega (arith, live-small f w s i), omega (arith, balance-more f (entryAt w) i))
 
   pub sum-end : (i total : ℕ) → i ≡ countOf w → Summed f w i total → total ≡ balanceOf f (entries w)

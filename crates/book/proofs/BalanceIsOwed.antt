@@ -1,6 +1,6 @@
 -- DEMAND 3, proved: after any history from the empty book the balance is what the history alone tells.
 -- Assumes nothing.
-use Prim.Native.Nat.{ℕ, _+_, _*_}
+use Prim.Native.Nat.{ℕ, _+_}
 use mathlib.Core.Path.{_≡_, refl, _∙_, ap₂}
 use mathlib.Core.Bool.{Bool, true, false, cond, _||_}
 use mathlib.Core.List.{List, [], _∷_, _++_, map, map-append}
@@ -11,16 +11,18 @@ use Rattle.common.proofs.Sums.{sum-append}
 use Rattle.bundle.specs.Records.{recordsOf}
 use Rattle.fares.specs.Fare.{partsOf}
 use Rattle.fares.specs.declared.Question.{Question}
-use Rattle.book.specs.Words.{Entry, entries, countOf, width, bookLength, booking, startOf}
+use Rattle.book.specs.Words.{Entry, entries, countOf, bookLength, booking, startOf}
 use Rattle.book.specs.Sound.{isZero, hasNumber, numbersDiffer, soundWords}
 use Rattle.book.specs.Sales.{saleWords, cancelWords}
 use Rattle.book.specs.Balances.{liveAmount, balanceOf}
 use Rattle.book.specs.History.{Number, Op, sale, cancel, emptyBook, after, cancelledIn, books, owed}
-use Rattle.book.proofs.Blocks.{cancelledEntry}
+use Rattle.book.proofs.EntryWords.{cancelledEntry}
 use Rattle.common.specs.Least.{least}
-use Rattle.book.proofs.EntryLaws.{IsSound, sound-is, every-drop}
-use Rattle.book.proofs.Kept.{cancelling}
-use Rattle.book.proofs.SaleLaws.{saleNumberOf, saleNumbersOf, all-zeros, not-booked, sale-entries, sale-sound, cancel-after}
+use Rattle.common.proofs.Tests.{either-way}
+use Rattle.common.proofs.Lists.{every-drop, every-replicate}
+use Rattle.book.proofs.SoundBook.{IsSound, sound-is}
+use Rattle.book.proofs.StaysSound.{cancelling, saleNumberOf, same-number}
+use Rattle.book.proofs.SaleAndCancel.{saleNumbersOf, not-booked, sale-entries, sale-sound, cancel-after}
 
 -- what the entries of a book come to once the operations have gone over them: those that are live and that no operation cancels
 abbrev lasting : (List ℕ → List ℕ → ℕ) → List Op → Entry → ℕ
@@ -35,18 +37,10 @@ unfolding rest sum
 rest-more f ops es e =
     rw (map-append (lasting f ops) es (e ∷ [])) (omega (arith, sum-append (map (lasting f ops) es) (lasting f ops e ∷ [])))
 
-same-both : (b : Bool) (x : ℕ) → cond b x x ≡ x
-same-both true x = refl
-same-both false x = refl
-
-same-number : (b : Bool) (e : Entry) → saleNumberOf (cond b (cancelledEntry e) e) ≡ saleNumberOf e
-same-number true e = refl
-same-number false e = refl
-
 -- an entry that is cancelled now is one that is cancelled by an operation
 lasting-cancelled : (f : List ℕ → List ℕ → ℕ) (ops : List Op) (n : Number) (e : Entry) (b : Bool) → hasNumber (n .till) (n .sequence) e ≡ b
     → lasting f ops (cond b (cancelledEntry e) e) ≡ cond (b || cancelledIn (saleNumberOf e) ops) 0 (liveAmount f e)
-lasting-cancelled f ops n e true h = same-both (cancelledIn (saleNumberOf e) ops) 0
+lasting-cancelled f ops n e true h = either-way (cancelledIn (saleNumberOf e) ops) 0
 lasting-cancelled f ops n e false h = refl
 
 rest-cancelled : (f : List ℕ → List ℕ → ℕ) (ops : List Op) (n : Number) (es : List Entry) → rest f ops (map (cancelling (n .till) (n .sequence)) es) ≡ rest f (cancel n ∷ ops) es
@@ -126,7 +120,7 @@ module _ (m : ℕ) (e : m ≡ bookLength) where
         few = omega (arith, zero-count);
         good = rw zero-entries;
         differ = rw zero-entries;
-        clear = every-drop isZero zeros (startOf (countOf zeros)) (all-zeros m);
+        clear = every-drop isZero zeros (startOf (countOf zeros)) (every-replicate isZero 0 refl m);
       }
 
 empty-entries : entries emptyBook ≡ []
