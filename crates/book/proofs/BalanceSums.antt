@@ -14,7 +14,7 @@ use Rattle.common.proofs.Sums.{sum-append, sum-up-small}
 use Rattle.common.proofs.Tests.{both-true}
 use Rattle.fares.specs.Question.{between}
 use Rattle.book.specs.Words.{Entry, width, countOf, railwayAt, entryOf, entryAt, entries, askedAt, partsAt, startOf, legsAt, legWidth}
-use Rattle.book.specs.Balances.{ofRailway, ofAll, liveAmount, balanceOf}
+use Rattle.book.specs.Amounts.{ofRailway, ofAll, liveAmount, balanceOf}
 use Rattle.book.specs.Helpers.{counted}
 use Rattle.book.proofs.SoundBook.{most}
 use Rattle.book.proofs.EntryWords.{block, word-at, block-lent, part-at, railway-at}

@@ -13,7 +13,7 @@ use Rattle.common.proofs.Tests.{order}
 use Rattle.common.proofs.Lists.{upto-same, upto-more}
 use Rattle.book.specs.Words.{Entry, noEntry, entryOf, entryAt, capacity, width, bookLength, countOf, entries, wordsOf, statusAt, startOf}
 use Rattle.book.specs.Sound.{isZero}
-use Rattle.book.specs.Sales.{added}
+use Rattle.book.specs.Changes.{added}
 use Rattle.book.proofs.EntryWords.{block, cancelledEntry, store-before, store-in, store-after, status-set, added-before, added-there, added-behind, added-length, Whole, words-back}
 use Rattle.common.proofs.Lists.{every-drop}
 use Rattle.book.proofs.SoundBook.{IsSound, entry-is, entries-length}

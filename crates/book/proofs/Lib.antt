@@ -4,9 +4,5 @@ pub mod NumbersDiffer
 pub mod SoundBook
 pub mod ChangedEntries
 pub mod StaysSound
-pub mod AnswersByCase
-pub mod SaleAndCancel
 pub mod BalanceSums
-pub mod BalanceIsOwed
-pub mod SentAgain
 pub mod TotalIsSum

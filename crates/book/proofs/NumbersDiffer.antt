@@ -2,7 +2,7 @@
 -- A number that ranks above all earlier ones repeats none of them.
 -- Assumes nothing.
 use Prim.Native.Nat.{ℕ, _+_, _≤_, _<_}
-use mathlib.Core.Path.{_≡_, refl, subst}
+use mathlib.Core.Path.{_≡_, refl, ap, subst}
 use mathlib.Core.Bool.{Bool, true, false}
 use mathlib.Core.List.{List, [], _∷_, _++_}
 use mathlib.Core.Logic.{_⊎_, inl, inr, ⊎-elim}
@@ -17,10 +17,11 @@ use Rattle.common.specs.Lists.{upTo}
 use Rattle.common.proofs.Least.{hit, none, before, passes, finds-none, none-finds, alike}
 use Rattle.common.proofs.Lists.{upto-length, upto-at}
 use Rattle.common.proofs.Tests.{order, side, never, both-true, refuted}
-use Rattle.book.specs.Words.{Entry, noEntry, startOf, entryAt}
+use Rattle.book.specs.Words.{Entry, noEntry, startOf, countOf, entries, entryAt}
 use Rattle.book.specs.Sound.{hasNumber, heldAt, repeats, numbersDiffer}
-use Rattle.book.specs.Helpers.{rank, RanksUpTo, repeatsEarlier}
+use Rattle.book.specs.Helpers.{heldBefore, rank, RanksUpTo, repeatsEarlier}
 use Rattle.book.proofs.EntryWords.{word-at}
+use Rattle.book.proofs.SoundBook.{entry-is, entries-length}
 
 pub has-number : (t s : ℕ) (e : Entry) → hasNumber t s e ≡ true → (e .till ≡ t) × (e .sequence ≡ s)
 has-number t s e h = let b = both-true (eqb (e .till) t) (eqb (e .sequence) s) h in (eqb-true (e .till) t (b .0), eqb-true (e .sequence) s (b .1))
@@ -62,6 +63,13 @@ module _ (t s : ℕ) (es : List Entry) where
 
   pub held-not-elsewhere : numbersDiffer es ≡ true → (j : ℕ) → j < length es → (j ≡ heldAt t s es → ⊥) → hasNumber t s (getD es j noEntry) ≡ false
   held-not-elsewhere d j l n = refuted (hasNumber t s (getD es j noEntry)) (λ p. n (omega (arith, held-only d j l p)))
+
+-- by the entries at their places
+pub held-is : (w : List ℕ) (t s : ℕ) → heldAt t s (entries w) ≡ heldBefore w (countOf w) t s
+unfolding heldAt
+held-is w t s =
+    rw (entries-length w)
+    (alike (λ i. hasNumber t s (getD (entries w) i noEntry)) (λ i. hasNumber t s (entryAt w i)) (countOf w) (λ i l. ap (hasNumber t s) (entry-is w i l)))
 
 -- AN ENTRY ADDED, with a number that no entry has
 module _ (es : List Entry) (e : Entry) where

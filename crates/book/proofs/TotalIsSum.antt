@@ -19,7 +19,7 @@ use Rattle.fares.specs.declared.Question.{Question}
 use Rattle.fares.proofs.FareLaws.{asked as asked-of}
 use Rattle.book.specs.Words.{Entry, entries, questionOf, railwayAt, fareAt, legOf}
 use Rattle.book.specs.Sound.{entrySound, soundWords}
-use Rattle.book.specs.Balances.{legPart, ofRailway, ofAll, liveAmount, balanceOf}
+use Rattle.book.specs.Amounts.{legPart, ofRailway, ofAll, liveAmount, balanceOf}
 use Rattle.book.proofs.SoundBook.{sound-entry, asked-limits, is-sound}
 
 nothing-owed : (n : ℕ) → sum (upTo (λ r. balanceOf (ofRailway (r + 1)) []) n) ≡ balanceOf ofAll []

@@ -5,17 +5,9 @@ use mathlib.Core.Bool.{Bool, cond}
 use mathlib.Core.List.{List}
 use lib.Dec.{eqb, ltb}
 use Rattle.common.specs.Least.{least}
-use Rattle.common.specs.Lists.{same}
-use Rattle.common.specs.Checks.{firstFault}
-use Rattle.bundle.specs.Records.{recordsOf}
-use Rattle.fares.specs.Fare.{partsOf, fareChecks}
-use Rattle.fares.specs.declared.Question.{Question}
-use Rattle.book.specs.Words.{Entry, entryAt, questionWords}
+use Rattle.book.specs.Words.{entryAt}
 use Rattle.book.specs.Sound.{hasNumber}
-use Rattle.book.specs.Sales.{noReceipt, receipt, unlessFault}
-use Rattle.book.specs.Balances.{ofRailway, ofAll}
-use Rattle.book.specs.declared.Outcome.the-variants.{Booked, AlreadyBooked}
-use Rattle.book.specs.declared.Receipt.{Receipt}
+use Rattle.book.specs.Amounts.{ofRailway, ofAll}
 
 -- the first of n entries that has the number, n where none has it
 abbrev pub heldBefore : List ℕ → ℕ → ℕ → ℕ → ℕ
@@ -32,13 +24,6 @@ RanksUpTo book i top = (j : ℕ) → j < i → rank (entryAt book j .till) (entr
 -- entry i has the number of an earlier one
 abbrev pub repeatsEarlier : List ℕ → ℕ → Bool
 repeatsEarlier book i = ltb (heldBefore book i (entryAt book i .till) (entryAt book i .sequence)) i
-
--- THE ANSWER on a number that is in the book, and on a new one, in a book that is sound
-unfoldable pub againAnswer : Entry → ℕ → Question → Receipt
-againAnswer e i q = cond (same (e .asked) (questionWords q)) (receipt (AlreadyBooked (e .status)) (e .parts)) (noReceipt 23 i 0)
-
-unfoldable pub firstAnswer : List ℕ → Question → Receipt
-firstAnswer bundle q = unlessFault (firstFault (fareChecks bundle q)) (receipt Booked (partsOf (recordsOf bundle) q))
 
 -- WHAT COUNTS by one number: 0 stands for all railways, as it does in the tables
 abbrev pub counted : ℕ → List ℕ → List ℕ → ℕ

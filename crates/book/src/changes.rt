@@ -1,11 +1,10 @@
 // The two changes that a book can have: one entry added, one cancelled.
 ghost use mathlib.Core.Path.{_≡_};
 ghost use Prim.Native.Nat.{_+_, _≤_, _<_};
-ghost use lib.ListN.{length, set};
+ghost use lib.ListN.{length};
 ghost use lib.Seq.{paste};
-ghost use Rattle.book.specs.Words.{countOf, capacity, bookLength, startOf, statusAt, booking};
-ghost use Rattle.book.specs.Sales.{added};
-ghost use Rattle.book.specs.Helpers.{heldBefore};
+ghost use Rattle.book.specs.Words.{capacity, width, bookLength, startOf, countOf, booking};
+ghost use Rattle.book.specs.Changes.{added, cancelledAt};
 use super::words::ASKED;
 use super::words::PARTS;
 use super::words::STATUS;
@@ -41,15 +40,11 @@ pub fn append(book: &mut [u32], till: u32, sequence: u32, q: Question, parts: [u
     book[0] = (count + 1) as u32;
 }
 
-// Cancels the entry of a number.
-pub fn cancel_entry(book: &mut [u32], till: u32, sequence: u32)
-    requires { ⌜ (length (now book) ≡ bookLength) × (countOf (now book) ≤ capacity)
-        × (heldBefore (now book) (countOf (now book)) till sequence < countOf (now book)) ⌝ }
-    ensures { λ _. ⌜ now (book .exit) ≡ set (now (book .entry))
-        (startOf (heldBefore (now (book .entry)) (countOf (now (book .entry))) till sequence) + statusAt) 1 ⌝ }
+// Cancels an entry.
+pub fn cancel_entry(book: &mut [u32], place: usize)
+    requires { ⌜ startOf place + width ≤ length (now book) ⌝ }
+    ensures { λ _. ⌜ now (book .exit) ≡ cancelledAt (now (book .entry)) place ⌝ }
 {
-    let count = book[0] as usize;
-    let place = super::entries::find(book, count, till, sequence);
     let at = 1 + place * WIDTH;
     book[at + STATUS] = 1;
 }

@@ -5,7 +5,7 @@ ghost use lib.Dec.{eqb};
 ghost use lib.ListN.{length};
 ghost use Rattle.book.specs.Words.{width, entryOf, entries};
 ghost use Rattle.book.specs.Sound.{soundWords};
-ghost use Rattle.book.specs.Balances.{liveAmount, balanceOf};
+ghost use Rattle.book.specs.Amounts.{liveAmount, balanceOf};
 ghost use Rattle.book.specs.Helpers.{counted};
 use super::words::LEG_WIDTH;
 use super::words::PARTS;

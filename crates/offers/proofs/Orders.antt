@@ -19,11 +19,12 @@ use Rattle.fares.specs.Legs.{legChecks}
 use Rattle.fares.specs.Fare.{partsOf, priceChecks, fareChecks, quoted, fareOf}
 use Rattle.fares.specs.declared.Question.{Question}
 use Rattle.book.specs.Words.{capacity, entries}
-use Rattle.book.specs.Sales.{unlessFault, receipt, isPresent, present, saleChecks, saleAnswer, cancelChecks, cancelAnswer}
-use Rattle.book.specs.Balances.{ofRailway, ofAll, balanceOf, summed, balanceChecks, totalChecks, balanceAnswer, totalAnswer}
-use Rattle.book.specs.declared.Receipt.{Receipt}
-use Rattle.book.specs.declared.Outcome.{Outcome}
-use Rattle.book.specs.declared.Outcome.the-variants.{Booked, AlreadyBooked, Cancelled, AlreadyCancelled, Refused as NoEntry}
+use Rattle.sales.specs.Sales.{unlessFault, receipt, isPresent, present, saleChecks, saleAnswer, cancelChecks, cancelAnswer}
+use Rattle.book.specs.Amounts.{ofRailway, ofAll, balanceOf}
+use Rattle.sales.specs.Balances.{summed, balanceChecks, totalChecks, balanceAnswer, totalAnswer}
+use Rattle.sales.specs.declared.Receipt.{Receipt}
+use Rattle.sales.specs.declared.Outcome.{Outcome}
+use Rattle.sales.specs.declared.Outcome.the-variants.{Booked, AlreadyBooked, Cancelled, AlreadyCancelled, Refused as NoEntry}
 use Rattle.offers.specs.Answers.{Told, answers, refuses, verdictTells, pricingTells, fareTells, booked, alreadyBooked, cancelled, alreadyCancelled, outcomeTells, receiptTells, sumTells, Follows}
 use Rattle.offers.specs.Answers.{verdictNumbers, fareNumbers, saleNumbers, cancelNumbers, balanceNumbers, totalNumbers, Among}
 

@@ -34,15 +34,16 @@ use Rattle.fares.proofs.Meaning.{each-part, never-sixteen}
 use Rattle.fares.proofs.Grants.{rounded-as-said, conditions-lawful, card-lawful}
 use Rattle.book.specs.Words.{entries, questionWords}
 use Rattle.book.specs.Sound.{soundWords}
-use Rattle.book.specs.Sales.{isPresent, present, saleChecks, saleAnswer, saleWords, cancelChecks, cancelAnswer, cancelWords}
-use Rattle.book.specs.Balances.{ofRailway, ofAll, balanceOf, balanceChecks, totalChecks, balanceAnswer, totalAnswer}
-use Rattle.book.specs.History.{Number, Op, sale, emptyBook, after, cancelledIn, owed}
-use Rattle.book.specs.declared.Receipt.{Receipt}
-use Rattle.book.specs.declared.Sum.{Sum}
-use Rattle.book.proofs.BalanceIsOwed.{balance-is-owed, always-sound}
+use Rattle.sales.specs.Sales.{isPresent, present, saleChecks, saleAnswer, saleWords, cancelChecks, cancelAnswer, cancelWords}
+use Rattle.book.specs.Amounts.{ofRailway, ofAll, balanceOf}
+use Rattle.sales.specs.Balances.{balanceChecks, totalChecks, balanceAnswer, totalAnswer}
+use Rattle.sales.specs.History.{Number, Op, sale, emptyBook, after, cancelledIn, owed}
+use Rattle.sales.specs.declared.Receipt.{Receipt}
+use Rattle.sales.specs.declared.Sum.{Sum}
+use Rattle.sales.proofs.BalanceIsOwed.{balance-is-owed, always-sound}
 use Rattle.book.proofs.TotalIsSum.{total-is-sum}
-use Rattle.book.proofs.SentAgain.{told-first, refused-other, nothing-changes}
-use Rattle.book.proofs.AnswersByCase.{booked-parts, not-booked-stays, not-cancelled-stays}
+use Rattle.sales.proofs.SentAgain.{told-first, refused-other, nothing-changes}
+use Rattle.sales.proofs.AnswersByCase.{booked-parts, not-booked-stays, not-cancelled-stays}
 use Rattle.offers.specs.Answers.{answers, refuses, verdictTells, fareTells, booked, alreadyBooked, cancelled, alreadyCancelled, outcomeTells, receiptTells, sumTells}
 use Rattle.offers.specs.Answers.{Follows, Among, verdictNumbers, fareNumbers, saleNumbers, cancelNumbers, balanceNumbers, totalNumbers}
 use Rattle.offers.proofs.Orders.{verdict-follows, fare-follows, sale-follows, cancel-follows, balance-follows, total-follows}

@@ -6,7 +6,7 @@ use native.Mathlib.Omega.{arith}
 use lib.ListN.{length, set, length-set}
 use lib.Seq.{paste}
 use Rattle.book.specs.Words.{width, startOf, countOf, booking, wordsOf}
-use Rattle.book.specs.Sales.{added}
+use Rattle.book.specs.Changes.{added}
 use Rattle.book.proofs.EntryWords.{entry-put}
 use borrow.Author.Needs.{needs}
 use Rattle.book.proofs.changes.append.Statement.{statement}
