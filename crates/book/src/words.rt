@@ -131,7 +131,7 @@ pub fn says(words: &[u32], q: Question) -> bool
     ensures { λ r. ⌜ r ≡ same (now (words .entry)) (questionWords q) ⌝ }
 {
     let own = question_words(q);
-    let mut alike = 0;
+    let mut alike: u32 = 0;
     let mut k = 0;
     while k < QUESTION_WIDTH {
         if words[k] == own[k] {
@@ -139,7 +139,7 @@ pub fn says(words: &[u32], q: Question) -> bool
         }
         k += 1;
     }
-    alike == QUESTION_WIDTH
+    alike as usize == QUESTION_WIDTH
 }
 
 // The eight words from a place on.
