@@ -1,4 +1,4 @@
--- What an entry and a book come to: the words that are added up, and that each sum fits.
+-- What an entry and a book come to, as the code adds it up: a turn for each leg and for each entry. Each sum fits, since each word is at most 4,294,967,295.
 -- Assumes nothing.
 use Prim.Native.Nat.{ℕ, _+_, _-_, _*_, _≤_, _<_}
 use mathlib.Core.Path.{_≡_, refl, sym, _∙_, ap}

@@ -1,4 +1,4 @@
--- What an entry added and one cancelled do to the entries of a sound book.
+-- What an entry added and one cancelled do to the entries of a sound book: each stands in words of its own, so the others stay.
 -- Assumes nothing.
 use Prim.Native.Nat.{ℕ, _+_, _-_, _*_, _≤_, _<_}
 use mathlib.Core.Path.{_≡_, sym, _∙_, ap, ap₂}

@@ -17,7 +17,7 @@ use Rattle.common.specs.Lists.{upTo}
 use Rattle.common.proofs.Least.{hit, none, before, passes, finds-none, none-finds, alike}
 use Rattle.common.proofs.Lists.{upto-length, upto-at}
 use Rattle.common.proofs.Tests.{order, side, never, both-true, refuted}
-use Rattle.book.specs.Words.{Entry, noEntry, startOf, countOf, entries, entryAt}
+use Rattle.book.specs.Words.{Entry, noEntry, tillAt, sequenceAt, startOf, countOf, entries, entryAt}
 use Rattle.book.specs.Sound.{hasNumber, heldAt, repeats, numbersDiffer}
 use Rattle.book.specs.Helpers.{heldBefore, rank, RanksUpTo, repeatsEarlier}
 use Rattle.book.proofs.EntryWords.{word-at}
@@ -110,8 +110,8 @@ module _ (w : List ℕ) where
   rankOf i = rank (entryAt w i .till) (entryAt w i .sequence)
 
   -- by the words of the entry
-  pub rank-words : (i : ℕ) → rank (getD w (startOf i) 0) (getD w (startOf i + 1) 0) ≡ rankOf i
-  rank-words i = rw (word-at w i 0 (omega arith), word-at w i 1 (omega arith), add-zero)
+  pub rank-words : (i : ℕ) → rank (getD w (startOf i) 0) (getD w (startOf i + sequenceAt) 0) ≡ rankOf i
+  rank-words i = rw (word-at w i tillAt (omega arith), word-at w i sequenceAt (omega arith), add-zero)
 
   -- an entry that ranks lower has another number
   pub above-none : (i top : ℕ) → RanksUpTo w i top → top < rankOf i → repeatsEarlier w i ≡ false

@@ -1,4 +1,5 @@
--- The total is the sum of the balances of all railways.
+-- The total is the sum of the balances of all railways: in a sound book each part counts for one railway, its leg's, and a leg that is not used has no
+-- part; so summed over the railways each entry comes to all its parts.
 -- Assumes nothing.
 use Prim.Native.Nat.{ℕ, _+_, _-_, _≤_, _<_}
 use mathlib.Core.Path.{_≡_, refl, sym, _∙_, ap, ap₂}

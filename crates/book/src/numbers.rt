@@ -3,7 +3,7 @@ ghost use mathlib.Core.Path.{_≡_};
 ghost use Prim.Native.Nat.{_+_, _≤_, _<_};
 ghost use lib.ListN.{length, getD};
 ghost use Rattle.common.specs.Lists.{upTo};
-ghost use Rattle.book.specs.Words.{capacity, width, startOf, entryAt};
+ghost use Rattle.book.specs.Words.{capacity, width, sequenceAt, startOf, entryAt};
 ghost use Rattle.book.specs.Sound.{numbersDiffer};
 ghost use Rattle.book.specs.Helpers.{heldBefore, rank, RanksUpTo, repeatsEarlier};
 use super::words::SEQUENCE;
@@ -32,7 +32,7 @@ pub fn find_before(book: &[u32], n: usize, till: u32, sequence: u32) -> usize
 // The sale number of the entry that starts at a place, as one number.
 fn rank_at(book: &[u32], at: usize) -> u64
     requires { ⌜ at + 2 ≤ length (now book) ⌝ }
-    ensures { λ r. ⌜ r ≡ rank (getD (now (book .entry)) at 0) (getD (now (book .entry)) (at + 1) 0) ⌝ }
+    ensures { λ r. ⌜ r ≡ rank (getD (now (book .entry)) at 0) (getD (now (book .entry)) (at + sequenceAt) 0) ⌝ }
 {
     (book[at] as u64) * 4294967296 + (book[at + SEQUENCE] as u64)
 }

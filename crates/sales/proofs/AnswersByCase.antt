@@ -1,4 +1,4 @@
--- What the answers on a sale and a cancellation come to, test by test: the laws that the functions which judge them cite.
+-- What the answers on a sale and a cancellation come to, case by case as the code finds them; and that what is written follows from the answer.
 -- Assumes nothing.
 use Prim.Native.Nat.{ℕ, _-_, _≤_, _<_}
 use mathlib.Core.Path.{_≡_, refl, _∙_, ap, subst}

@@ -1,4 +1,5 @@
--- DEMAND 3, proved: after any history from the empty book the balance is what the history alone tells.
+-- DEMAND 3, proved: after any history from the empty book the balance is what the history alone tells. By induction over the operations, from any
+-- sound book: what its entries come to once the operations have gone over them, and what the sales among these add.
 -- Assumes nothing.
 use Prim.Native.Nat.{ℕ, _+_}
 use mathlib.Core.Path.{_≡_, refl, _∙_, ap₂}

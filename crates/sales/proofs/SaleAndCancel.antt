@@ -2,7 +2,7 @@
 -- Assumes nothing.
 use Prim.Native.Nat.{ℕ, zero, suc, _+_, _-_, _≤_, _<_}
 use mathlib.Core.Path.{_≡_, refl, sym, _∙_, ap}
-use mathlib.Core.Bool.{Bool, true, false, cond, not, _&&_, _||_}
+use mathlib.Core.Bool.{Bool, true, false, cond, not, _&&_, _||_, and-true}
 use mathlib.Core.List.{List, [], _∷_, _++_, map}
 use mathlib.Core.Logic.{_⊎_, ⊎-elim}
 use native.Mathlib.Omega.{arith}
@@ -65,11 +65,7 @@ unfolding firstFault
 booked-by true true true F i cs = refl
 booked-by true true false F i cs = refl
 booked-by true false D true i cs = refl
-booked-by true false D false i cs = and-one (isClean (firstFault cs))
-  where
-    and-one : (b : Bool) → (b && true) ≡ b
-    and-one true = refl
-    and-one false = refl
+booked-by true false D false i cs = and-true (isClean (firstFault cs))
 booked-by false true true F i cs = refl
 booked-by false true false F i cs = refl
 booked-by false false D F i cs = refl

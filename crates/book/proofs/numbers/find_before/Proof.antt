@@ -11,7 +11,7 @@ use lib.Dec.{eqb}
 use lib.ListN.{getD}
 use borrow.Author.Tests.{eq-eqb, ne-eqb}
 use Rattle.common.proofs.Least.{start, more, hit}
-use Rattle.book.specs.Words.{entryAt, startOf}
+use Rattle.book.specs.Words.{entryAt, startOf, tillAt, sequenceAt}
 use Rattle.book.specs.Sound.{hasNumber}
 use Rattle.book.specs.Helpers.{heldBefore}
 use Rattle.book.proofs.EntryWords.{word-at}
@@ -25,8 +25,8 @@ abbrev μ-loop : tie.MeasureT-loop
 μ-loop book n till sequence i₀ at₀ i at = n - i
 
 -- the number of entry i, as the two words at its start
-tested : (w : List ℕ) (t s i at : ℕ) → at ≡ startOf i → hasNumber t s (entryAt w i) ≡ (eqb (getD w at 0) t && eqb (getD w (at + 1) 0) s)
-tested w t s i at e = rw (word-at w i 0 (omega arith), word-at w i 1 (omega arith), add-zero, ← e)
+tested : (w : List ℕ) (t s i at : ℕ) → at ≡ startOf i → hasNumber t s (entryAt w i) ≡ (eqb (getD w at 0) t && eqb (getD w (at + sequenceAt) 0) s)
+tested w t s i at e = rw (word-at w i tillAt (omega arith), word-at w i sequenceAt (omega arith), add-zero, ← e)
 
 loop-holds : tie.Need-loop-holds Inv-loop μ-loop
 loop-holds c = (omega arith, omega arith, start _)

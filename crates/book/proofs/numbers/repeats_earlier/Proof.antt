@@ -4,6 +4,7 @@ use mathlib.Core.Path.{sym}
 use native.Mathlib.Nat.{add-zero}
 use native.Mathlib.Omega.{arith}
 use borrow.Author.Needs.{needs}
+use Rattle.book.specs.Words.{tillAt, sequenceAt}
 use Rattle.book.proofs.EntryWords.{word-at}
 use Rattle.book.proofs.NumbersDiffer.{rank-words, above-none}
 use Rattle.book.proofs.numbers.repeats_earlier.Statement.{statement}
@@ -18,7 +19,7 @@ returns c =
 returns-2 : tie.Need-returns-2
 returns-2 c =
     let a = c .before .before .before .before .before .before .args in
-    rw (word-at (a .book .now) (a .i) 0 (omega arith), word-at (a .book .now) (a .i) 1 (omega arith), add-zero, c .find-before .ensures)
+    rw (word-at (a .book .now) (a .i) tillAt (omega arith), word-at (a .book .now) (a .i) sequenceAt (omega arith), add-zero, c .find-before .ensures)
 
 pub repeats-earlier-spec : {M : Type 1} → statement M
 repeats-earlier-spec =

@@ -11,7 +11,7 @@ use borrow.Author.Tests.{le-leb, lt-leb}
 use Rattle.common.specs.Lists.{every}
 use Rattle.common.proofs.Tests.{fails, holds}
 use Rattle.fares.specs.Reductions.{partBound}
-use Rattle.book.specs.Words.{questionWidth, questionOf, countAt, askedAt, partsAt}
+use Rattle.book.specs.Words.{questionWidth, questionOf, countAt, askedAt, partsAt, tillAt, sequenceAt}
 use Rattle.book.specs.Sound.{isZero, numberInLimits, askedSound, entrySound}
 use Rattle.book.proofs.EntryWords.{count-at, unused-parts}
 use Rattle.book.proofs.SoundBook.{few-legs}
@@ -19,7 +19,7 @@ use Rattle.book.proofs.sound.entry_sound.Statement.{statement}
 use Rattle.book.proofs.sound.entry_sound.Tie as tie
 
 -- what was shown on the way
-number-in : (c : tie.Else1) → numberInLimits (getD (c .before .before .before .before .before .args .words .now) 0 0) (getD (c .before .before .before .before .before .args .words .now) 1 0) ≡ true
+number-in : (c : tie.Else1) → numberInLimits (getD (c .before .before .before .before .before .args .words .now) tillAt 0) (getD (c .before .before .before .before .before .args .words .now) sequenceAt 0) ≡ true
 number-in c = holds (c .before .is-number .result) (c .if1 .left) (c .before .is-number .ensures)
 
 asked-in : (c : tie.Else2) → askedSound (take questionWidth (drop askedAt (c .before .before .before .before .before .before .before .before .args .words .now))) ≡ true
@@ -76,7 +76,7 @@ pub entry-sound-spec : {M : Type 1} → statement M
 entry-sound-spec =
     tie.close
     (tie.spec
-    (λ c. search needs) (λ c. search needs) (λ c. omega (arith, c .shared-slice-known3 .given 1)) (λ c κs. search needs) returns
+    (λ c. search needs) (λ c. search needs) (λ c. omega (arith, c .shared-slice-known3 .given sequenceAt)) (λ c κs. search needs) returns
     (λ c. search needs) (λ c. search needs) (λ c. search needs) (λ c κs. search needs) returns-2 (λ c. search needs) (λ c. search needs)
     (λ c. search needs) (λ c κs. search needs) returns-3 (λ c. search needs) (λ c. omega (arith, few (c .before .before .before .before)))
     (λ c. omega (arith, few (c .before .before .before .before))) (λ c. omega (arith, few (c .before .before .before .before)))
