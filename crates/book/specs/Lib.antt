@@ -1,6 +1,5 @@
 pub mod Words
 pub mod Sound
-pub mod Ranks
-pub mod Sales
-pub mod Balances
-pub mod History
+pub mod Changes
+pub mod Amounts
+pub mod Helpers

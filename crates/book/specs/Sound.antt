@@ -1,6 +1,6 @@
 -- When a book is sound, number 21 (document 01, 'The sales book').
 -- Assumes nothing.
-use Prim.Native.Nat.{ℕ, _+_, _*_}
+use Prim.Native.Nat.{ℕ}
 use mathlib.Core.Bool.{Bool, _&&_}
 use mathlib.Core.List.{List, [], _∷_}
 use lib.Dec.{eqb, leb, ltb}
@@ -9,14 +9,14 @@ use Rattle.common.specs.Least.{least}
 use Rattle.common.specs.Lists.{every, same}
 use Rattle.fares.specs.Question.{between, inLimits}
 use Rattle.fares.specs.Reductions.{partBound}
-use Rattle.book.specs.Words.{Entry, noEntry, capacity, width, bookLength, countOf, entries, questionOf, questionWords}
+use Rattle.book.specs.Words.{Entry, noEntry, capacity, bookLength, startOf, countOf, entries, questionOf, questionWords}
 
 abbrev pub isZero : ℕ → Bool
 isZero x = eqb x 0
 
 -- "till 1-65,535, sequence 1-4,294,967,295 (together the sale number)"
 abbrev pub numberInLimits : ℕ → ℕ → Bool
-numberInLimits t s = between 1 65535 t && between 1 4294967295 s
+numberInLimits till sequence = between 1 65535 till && between 1 4294967295 sequence
 
 -- the question's words are those of a question within its limits, so that unused places among them are zero
 abbrev pub askedSound : List ℕ → Bool
@@ -30,22 +30,22 @@ entrySound e =
     askedSound (e .asked) ∷
     every (λ p. leb p partBound) (e .parts) ∷
     every isZero (drop (questionOf (e .asked) .count) (e .parts)) ∷
-    leb (e .mark) 1 ∷
+    leb (e .status) 1 ∷
     every isZero (e .spare) ∷
     [])
 
-abbrev pub sameNumber : ℕ → ℕ → Entry → Bool
-sameNumber t s e = eqb (e .till) t && eqb (e .sequence) s
+abbrev pub hasNumber : ℕ → ℕ → Entry → Bool
+hasNumber till sequence e = eqb (e .till) till && eqb (e .sequence) sequence
 
 -- the first entry that has the number; the number of the entries where none has it
-unfoldable pub placeOf : ℕ → ℕ → List Entry → ℕ
-placeOf t s es = least (λ i. sameNumber t s (getD es i noEntry)) (length es)
+unfoldable pub heldAt : ℕ → ℕ → List Entry → ℕ
+heldAt till sequence es = least (λ i. hasNumber till sequence (getD es i noEntry)) (length es)
 
 -- entry i has the number of an earlier one
 abbrev pub repeats : List Entry → ℕ → Bool
 repeats es i =
     let e : Entry = getD es i noEntry in
-    ltb (least (λ j. sameNumber (e .till) (e .sequence) (getD es j noEntry)) i) i
+    ltb (least (λ j. hasNumber (e .till) (e .sequence) (getD es j noEntry)) i) i
 
 -- "its numbers differ": no entry repeats an earlier number
 unfoldable pub numbersDiffer : List Entry → Bool
@@ -53,11 +53,11 @@ numbersDiffer es = eqb (least (repeats es) (length es)) (length es)
 
 -- "A book is sound if its count is at most 256, its numbers differ, its fields are in the limits .., and unused places are zero."
 unfoldable pub soundWords : List ℕ → Bool
-soundWords w =
+soundWords book =
     every (λ b. b) (
-    eqb (length w) bookLength ∷
-    leb (countOf w) capacity ∷
-    every entrySound (entries w) ∷
-    numbersDiffer (entries w) ∷
-    every isZero (drop (1 + countOf w * width) w) ∷
+    eqb (length book) bookLength ∷
+    leb (countOf book) capacity ∷
+    every entrySound (entries book) ∷
+    numbersDiffer (entries book) ∷
+    every isZero (drop (startOf (countOf book)) book) ∷
     [])

@@ -1,63 +1,50 @@
-// The two changes that a book can have: one entry added, one mark set.
+// The two changes that a book can have: one entry added, one cancelled.
 ghost use mathlib.Core.Path.{_≡_};
-ghost use Prim.Native.Nat.{_+_, _*_, _≤_, _<_};
-ghost use lib.ListN.{length, getD, set};
+ghost use Prim.Native.Nat.{_+_, _≤_, _<_};
+ghost use lib.ListN.{length};
 ghost use lib.Seq.{paste};
-ghost use Rattle.common.specs.Least.{least};
-ghost use Rattle.book.specs.Words.{countOf, capacity, bookLength, width, markAt, booking, wordsOf, entryWord, entryAt};
-ghost use Rattle.book.specs.Sound.{sameNumber};
-ghost use Rattle.book.specs.Sales.{added};
+ghost use Rattle.book.specs.Words.{capacity, width, bookLength, startOf, countOf, booking};
+ghost use Rattle.book.specs.Changes.{added, cancelledAt};
 use super::words::ASKED;
-use super::words::MARK;
 use super::words::PARTS;
-use super::words::SEQUENCE;
+use super::words::STATUS;
 use super::words::WIDTH;
 use fares::Question;
 
-// Word k of a new entry.
-fn entry_word(till: u32, sequence: u32, q: Question, parts: [u32; 8], k: usize) -> u32
-    ensures { λ r. ⌜ r ≡ entryWord till sequence q parts k ⌝ }
+// Writes words from a place on.
+fn put(book: &mut [u32], at: usize, words: &[u32])
+    requires { ⌜ at + length (now words) ≤ length (now book) ⌝ }
+    ensures { λ _. ⌜ now (book .exit) ≡ paste (now (book .entry)) at (now (words .entry)) (length (now (words .entry))) ⌝ }
 {
-    if k < SEQUENCE {
-        return till;
+    let mut k = 0;
+    while k < words.len() {
+        book[at + k] = words[k];
+        k += 1;
     }
-    if k < ASKED {
-        return sequence;
-    }
-    if k < PARTS {
-        return super::words::question_word(q, k - ASKED);
-    }
-    if k < MARK {
-        let j = k - PARTS;
-        return parts[j];
-    }
-    0
 }
 
 // One entry at the end, and the count with it.
 pub fn append(book: &mut [u32], till: u32, sequence: u32, q: Question, parts: [u32; 8])
     requires { ⌜ (length (now book) ≡ bookLength) × (countOf (now book) < capacity) ⌝ }
-    ensures { λ _. ⌜ now (book .exit) ≡ added (now (book .entry)) till sequence (booking till sequence q parts) ⌝ }
+    ensures { λ _. ⌜ now (book .exit) ≡ added (now (book .entry)) (booking till sequence q parts) ⌝ }
 {
     let count = book[0] as usize;
     let at = 1 + count * WIDTH;
-    let mut k = 0;
-    while k < WIDTH {
-        book[at + k] = entry_word(till, sequence, q, parts, k);
-        k += 1;
-    }
+    let number = [till, sequence];
+    let asked = super::words::question_words(q);
+    let rest = [0u32; 3];
+    put(book, at, &number);
+    put(book, at + ASKED, &asked);
+    put(book, at + PARTS, &parts);
+    put(book, at + STATUS, &rest);
     book[0] = (count + 1) as u32;
 }
 
-// The mark of the entry of a number.
-pub fn set_mark(book: &mut [u32], till: u32, sequence: u32)
-    requires { ⌜ (length (now book) ≡ bookLength) × (countOf (now book) ≤ capacity)
-        × (least (λ i. sameNumber till sequence (entryAt (now book) i)) (countOf (now book)) < countOf (now book)) ⌝ }
-    ensures { λ _. ⌜ now (book .exit) ≡ set (now (book .entry))
-        (1 + least (λ i. sameNumber till sequence (entryAt (now (book .entry)) i)) (countOf (now (book .entry))) * width + markAt) 1 ⌝ }
+// Cancels an entry.
+pub fn cancel_entry(book: &mut [u32], place: usize)
+    requires { ⌜ startOf place + width ≤ length (now book) ⌝ }
+    ensures { λ _. ⌜ now (book .exit) ≡ cancelledAt (now (book .entry)) place ⌝ }
 {
-    let count = book[0] as usize;
-    let place = super::entries::find(book, count, till, sequence);
     let at = 1 + place * WIDTH;
-    book[at + MARK] = 1;
+    book[at + STATUS] = 1;
 }

@@ -1,29 +1,59 @@
-// The entries of a book, looked up by their number.
+// The entries of a book, one at a time.
 ghost use mathlib.Core.Path.{_≡_};
-ghost use Prim.Native.Nat.{_+_, _*_, _≤_, _<_};
+ghost use Prim.Native.Nat.{_+_, _≤_};
 ghost use lib.ListN.{length};
-ghost use Rattle.common.specs.Least.{least};
-ghost use Rattle.book.specs.Words.{width, entryAt};
-ghost use Rattle.book.specs.Sound.{sameNumber};
-use super::words::SEQUENCE;
+ghost use Rattle.common.specs.Lists.{same};
+ghost use Rattle.book.specs.Words.{width, startOf, countOf, entryAt, entries, questionWords};
+ghost use Rattle.book.specs.Sound.{heldAt};
+use super::words::ASKED;
+use super::words::PARTS;
+use super::words::STATUS;
 use super::words::WIDTH;
+use fares::Question;
 
-// The first of n entries that has the number, n where none has it.
-pub fn find(book: &[u32], n: usize, till: u32, sequence: u32) -> usize
-    requires { ⌜ 1 + n * width ≤ length (now book) ⌝ }
-    ensures { λ r. ⌜ r ≡ least (λ i. sameNumber till sequence (entryAt (now (book .entry)) i)) n ⌝ }
+// How many entries are in use.
+pub fn count(book: &[u32]) -> usize
+    ensures { λ r. ⌜ r ≡ countOf (now (book .entry)) ⌝ }
 {
-    let mut i = 0;
-    let mut at = 1;
-    while i < n {
-        // the sequence first: it is the one that tells the entries of a till apart
-        if book[at + SEQUENCE] == sequence {
-            if book[at] == till {
-                return i;
-            }
-        }
-        i += 1;
-        at += WIDTH;
+    if book.len() == 0 {
+        return 0;
     }
-    n
+    book[0] as usize
+}
+
+// The entry that has a number, the count where none has it.
+pub fn find(book: &[u32], till: u32, sequence: u32) -> usize
+    requires { ⌜ startOf (countOf (now book)) ≤ length (now book) ⌝ }
+    ensures { λ r. ⌜ r ≡ heldAt till sequence (entries (now (book .entry))) ⌝ }
+{
+    super::numbers::find_before(book, count(book), till, sequence)
+}
+
+// Whether an entry is that of a question.
+pub fn asks(book: &[u32], place: usize, q: Question) -> bool
+    requires { ⌜ startOf place + width ≤ length (now book) ⌝ }
+    ensures { λ r. ⌜ r ≡ same (entryAt (now (book .entry)) place .asked) (questionWords q) ⌝ }
+{
+    let at = 1 + place * WIDTH;
+    let asked = at + ASKED;
+    let parts = at + PARTS;
+    super::words::says(&book[asked..parts], q)
+}
+
+// The parts of an entry.
+pub fn parts_of(book: &[u32], place: usize) -> [u32; 8]
+    requires { ⌜ startOf place + width ≤ length (now book) ⌝ }
+    ensures { λ r. ⌜ r ≡ entryAt (now (book .entry)) place .parts ⌝ }
+{
+    let at = 1 + place * WIDTH;
+    super::words::parts_in(book, at + PARTS)
+}
+
+// The status of an entry: 0 live, 1 cancelled.
+pub fn status_of(book: &[u32], place: usize) -> u32
+    requires { ⌜ startOf place + width ≤ length (now book) ⌝ }
+    ensures { λ r. ⌜ r ≡ entryAt (now (book .entry)) place .status ⌝ }
+{
+    let at = 1 + place * WIDTH;
+    book[at + STATUS]
 }

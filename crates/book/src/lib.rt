@@ -1,88 +1,9 @@
-// The sales book: a sale that is sent again is never booked again.
-ghost use mathlib.Core.Path.{_≡_};
-ghost use Rattle.book.specs.Sales.{saleAnswer, saleWords, cancelAnswer, cancelWords};
-ghost use Rattle.book.specs.Balances.{balanceAnswer, totalAnswer};
-
-mod changes;
-mod entries;
-mod judged;
-mod sound;
-mod sums;
+// The sales book as words: its entries, when it is sound, the two changes that it can have, and what it comes to.
+pub mod changes;
+pub mod entries;
+mod numbers;
+pub mod sound;
+pub mod sums;
 mod words;
 
-// What came of a sale or a cancellation; `AlreadyBooked` has the mark of the entry, 1 if it is cancelled.
-pub enum Outcome {
-    Booked,
-    AlreadyBooked(u32),
-    Cancelled,
-    AlreadyCancelled,
-    Refused(u8, usize, usize),
-}
-
-// The outcome with the sale's parts; all zero where it is refused.
-pub struct Receipt {
-    pub outcome: Outcome,
-    pub parts: [u32; 8],
-}
-
-// A balance or a total in cents, or why there is none.
-pub enum Sum {
-    Amount(u64),
-    Refused(u8, usize, usize),
-}
-
-// Books a sale, if its number is new and it can be priced.
-pub fn sale(
-    book: &mut [u32],
-    bundle: &[u8],
-    till: u32,
-    sequence: u64,
-    q: fares::Question,
-) -> Receipt
-    ensures { λ r. ⌜ r ≡ saleAnswer (now (book .entry)) till sequence (now (bundle .entry)) q ⌝ }
-    ensures { λ r. ⌜ now (book .exit) ≡ saleWords (now (book .entry)) till sequence (now (bundle .entry)) q ⌝ }
-{
-    let receipt = judged::judge_sale(book, bundle, till, sequence, q);
-    let outcome = receipt.outcome;
-    if let Outcome::Booked = outcome {
-        let parts = receipt.parts;
-        changes::append(book, till, sequence as u32, q, parts);
-    }
-    receipt
-}
-
-// Cancels a sale; its entry stays, so that its number is never booked again.
-pub fn cancel(book: &mut [u32], till: u32, sequence: u64) -> Receipt
-    ensures { λ r. ⌜ r ≡ cancelAnswer (now (book .entry)) till sequence ⌝ }
-    ensures { λ r. ⌜ now (book .exit) ≡ cancelWords (now (book .entry)) till sequence ⌝ }
-{
-    let receipt = judged::judge_cancel(book, till, sequence);
-    let outcome = receipt.outcome;
-    if let Outcome::Cancelled = outcome {
-        changes::set_mark(book, till, sequence as u32);
-    }
-    receipt
-}
-
-// What a railway is owed.
-pub fn balance(book: &[u32], railway: u32) -> Sum
-    ensures { λ r. ⌜ r ≡ balanceAnswer (now (book .entry)) railway ⌝ }
-{
-    if !sound::is_sound(book) {
-        return Sum::Refused(21, 0, 0);
-    }
-    if !fares::limits::is_railway(railway) {
-        return Sum::Refused(11, 0, 0);
-    }
-    Sum::Amount(sums::owed(book, railway))
-}
-
-// What all railways are owed.
-pub fn total(book: &[u32]) -> Sum
-    ensures { λ r. ⌜ r ≡ totalAnswer (now (book .entry)) ⌝ }
-{
-    if !sound::is_sound(book) {
-        return Sum::Refused(21, 0, 0);
-    }
-    Sum::Amount(sums::owed(book, sums::ALL))
-}
+pub use words::CAPACITY;

@@ -1,22 +1,22 @@
-// Whether a book is sound.
+// When a book is sound, and a sale number within its limits.
 ghost use mathlib.Core.Path.{_≡_};
 ghost use Prim.Native.Nat.{_+_, _*_, _≤_, _<_};
-ghost use lib.Dec.{eqb, leb};
-ghost use lib.ListN.{length, getD, drop};
-ghost use Rattle.common.specs.Least.{least};
+ghost use lib.Dec.{leb};
+ghost use lib.ListN.{length};
 ghost use Rattle.common.specs.Lists.{every, upTo};
 ghost use Rattle.fares.specs.Reductions.{partBound};
-ghost use Rattle.book.specs.Words.{capacity, bookLength, width, questionWidth, entryOf, entryAt};
-ghost use Rattle.book.specs.Sound.{isZero, numberInLimits, askedSound, entrySound, numbersDiffer, soundWords};
-ghost use Rattle.book.specs.Ranks.{rank, RanksUpTo, repeatsEarlier};
+ghost use Rattle.book.specs.Words.{capacity, bookLength, startOf, width, questionWidth, entryOf, entryAt};
+ghost use Rattle.book.specs.Sound.{isZero, numberInLimits, askedSound, entrySound, soundWords};
 use super::words::ASKED;
 use super::words::CAPACITY;
 use super::words::LEG_COUNT;
 use super::words::LENGTH;
-use super::words::MARK;
+use super::words::PART_BOUND;
 use super::words::PARTS;
 use super::words::SEQUENCE;
 use super::words::SPARE;
+use super::words::STATUS;
+use super::words::TILL;
 use super::words::WIDTH;
 
 // Whether a sale number is within its limits.
@@ -54,7 +54,7 @@ fn all_bounded(parts: &[u32]) -> bool
 {
     let mut k = 0;
     while k < parts.len() {
-        if 99197505 < parts[k] {
+        if PART_BOUND < parts[k] {
             return false;
         }
         k += 1;
@@ -78,27 +78,27 @@ fn entry_sound(words: &[u32]) -> bool
     requires { ⌜ length (now words) ≡ width ⌝ }
     ensures { λ r. ⌜ r ≡ entrySound (entryOf (now (words .entry))) ⌝ }
 {
-    if !is_number(words[0], words[SEQUENCE] as u64) {
+    if !is_number(words[TILL], words[SEQUENCE] as u64) {
         return false;
     }
     if !asked_sound(&words[ASKED..PARTS]) {
         return false;
     }
-    if !all_bounded(&words[PARTS..MARK]) {
+    if !all_bounded(&words[PARTS..STATUS]) {
         return false;
     }
     let first = PARTS + (words[LEG_COUNT] as usize);
-    if !all_zero(&words[first..MARK]) {
+    if !all_zero(&words[first..STATUS]) {
         return false;
     }
-    if 1 < words[MARK] {
+    if 1 < words[STATUS] {
         return false;
     }
     all_zero(&words[SPARE..WIDTH])
 }
 
 fn entries_sound(book: &[u32], n: usize) -> bool
-    requires { ⌜ (n ≤ capacity) × (1 + n * width ≤ length (now book)) ⌝ }
+    requires { ⌜ (n ≤ capacity) × (startOf n ≤ length (now book)) ⌝ }
     ensures { λ r. ⌜ r ≡ every entrySound (upTo (entryAt (now (book .entry))) n) ⌝ }
 {
     let mut i = 0;
@@ -113,45 +113,7 @@ fn entries_sound(book: &[u32], n: usize) -> bool
     true
 }
 
-// The sale number of the entry that starts at a place, as one number.
-fn rank_at(book: &[u32], at: usize) -> u64
-    requires { ⌜ at + 2 ≤ length (now book) ⌝ }
-    ensures { λ r. ⌜ r ≡ rank (getD (now (book .entry)) at 0) (getD (now (book .entry)) (at + 1) 0) ⌝ }
-{
-    (book[at] as u64) * 4294967296 + (book[at + SEQUENCE] as u64)
-}
-
-// Whether entry i has the number of an earlier one, none of which ranks above `top`. Only a number that does not rank above them is looked for.
-fn repeats_earlier(book: &[u32], i: usize, top: u64) -> bool
-    requires { ⌜ (i < capacity) × (1 + i * width + width ≤ length (now book)) × RanksUpTo (now book) i top ⌝ }
-    ensures { λ r. ⌜ r ≡ repeatsEarlier (now (book .entry)) i ⌝ }
-{
-    let at = 1 + i * WIDTH;
-    if top < rank_at(book, at) {
-        return false;
-    }
-    super::entries::find(book, i, book[at], book[at + SEQUENCE]) < i
-}
-
-fn numbers_differ(book: &[u32], n: usize) -> bool
-    requires { ⌜ (n ≤ capacity) × (1 + n * width ≤ length (now book)) ⌝ }
-    ensures { λ r. ⌜ r ≡ numbersDiffer (upTo (entryAt (now (book .entry))) n) ⌝ }
-{
-    let mut top: u64 = 0;
-    let mut i = 0;
-    while i < n {
-        if repeats_earlier(book, i, top) {
-            return false;
-        }
-        let rank = rank_at(book, 1 + i * WIDTH);
-        if top < rank {
-            top = rank;
-        }
-        i += 1;
-    }
-    true
-}
-
+// Whether a book is sound.
 pub fn is_sound(book: &[u32]) -> bool
     ensures { λ r. ⌜ r ≡ soundWords (now (book .entry)) ⌝ }
 {
@@ -165,7 +127,7 @@ pub fn is_sound(book: &[u32]) -> bool
     if !entries_sound(book, count) {
         return false;
     }
-    if !numbers_differ(book, count) {
+    if !super::numbers::numbers_differ(book, count) {
         return false;
     }
     let unused = 1 + count * WIDTH;

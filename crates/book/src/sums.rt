@@ -5,11 +5,12 @@ ghost use lib.Dec.{eqb};
 ghost use lib.ListN.{length};
 ghost use Rattle.book.specs.Words.{width, entryOf, entries};
 ghost use Rattle.book.specs.Sound.{soundWords};
-ghost use Rattle.book.specs.Balances.{counted, liveAmount, balanceOf};
+ghost use Rattle.book.specs.Amounts.{liveAmount, balanceOf};
+ghost use Rattle.book.specs.Helpers.{counted};
 use super::words::LEG_WIDTH;
-use super::words::MARK;
 use super::words::PARTS;
 use super::words::RAILWAYS;
+use super::words::STATUS;
 use super::words::WIDTH;
 
 // Stands for all railways.
@@ -30,7 +31,7 @@ fn entry_owed(words: &[u32], railway: u32) -> u64
     requires { ⌜ length (now words) ≡ width ⌝ }
     ensures { λ r. ⌜ r ≡ liveAmount (counted railway) (entryOf (now (words .entry))) ⌝ }
 {
-    if words[MARK] != 0 {
+    if words[STATUS] != 0 {
         return 0;
     }
     let mut sum: u64 = 0;

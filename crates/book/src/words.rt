@@ -1,55 +1,61 @@
-// The words of a book and of its entries.
+// The words of a book and of its entries: the one table of places, each of which follows from the widths before it.
 ghost use mathlib.Core.Path.{_≡_};
 ghost use Prim.Native.Nat.{_+_, _≤_, _<_};
-ghost use lib.ListN.{length, getD, take, drop};
+ghost use lib.ListN.{length, take, drop};
 ghost use Rattle.common.specs.Lists.{same};
-ghost use Rattle.book.specs.Words.{questionWidth, legsAt, legAt, legOf, legSays, legWord, questionWord, questionWords, questionOf};
+ghost use Rattle.book.specs.Words.{questionWidth, legAt, legOf, questionWords, questionOf};
 use fares::Leg;
 use fares::Question;
 
-// A book is its count, and then its entries.
-pub const CAPACITY: usize = 256;
+// A question: offer, day, four cards, the leg count, six pairs of a category and its persons, and eight legs of four words.
+const OFFER: usize = 0;
 
-pub const LENGTH: usize = 16385;
+const DAY: usize = 1;
 
-// An entry's words, and where its values stand: the till at 0, then these.
-pub const WIDTH: usize = 64;
+const CARDS: usize = 2;
+
+const COUNT: usize = CARDS + 4;
+
+const PAIRS: usize = COUNT + 1;
+
+const PERSONS: usize = PAIRS + 1;
+
+const LEGS: usize = PAIRS + 6 * 2;
+
+pub const LEG_WIDTH: usize = 4;
+
+pub const QUESTION_WIDTH: usize = LEGS + 8 * LEG_WIDTH;
+
+// An entry: the till, the sequence, the question, eight parts, the status, and two words that are kept zero.
+pub const TILL: usize = 0;
 
 pub const SEQUENCE: usize = 1;
 
 pub const ASKED: usize = 2;
 
-// The leg count and the first leg's railway are words of the question.
-pub const LEG_COUNT: usize = 8;
+pub const LEG_COUNT: usize = ASKED + COUNT;
 
-pub const RAILWAYS: usize = 21;
+pub const RAILWAYS: usize = ASKED + LEGS;
 
-pub const PARTS: usize = 53;
+pub const PARTS: usize = ASKED + QUESTION_WIDTH;
 
-pub const MARK: usize = 61;
+pub const STATUS: usize = PARTS + 8;
 
-pub const SPARE: usize = 62;
+pub const SPARE: usize = STATUS + 1;
 
-// The words of a question, and where each value stands in them.
-pub const QUESTION_WIDTH: usize = 51;
+pub const WIDTH: usize = SPARE + 2;
 
-const OFFER: usize = 0;
+// A book: the count, and then the entries.
+pub const CAPACITY: usize = 256;
 
-const DAY: usize = 1;
+pub const LENGTH: usize = 1 + CAPACITY * WIDTH;
 
-const CARD: usize = 2;
-
-const COUNT: usize = 6;
-
-const PERSONS: usize = 8;
-
-const LEGS: usize = 19;
-
-// The words of a leg: its railway, its fare, and two that are kept zero.
-pub const LEG_WIDTH: usize = 4;
+// The most cents that a part can have: `partBound` of the fares.
+pub const PART_BOUND: u32 = 99197505;
 
 // Leg j of a question, zeros from the leg count on.
 fn leg_at(q: Question, j: usize) -> Leg
+    requires { ⌜ j < 8 ⌝ }
     ensures { λ r. ⌜ r ≡ legAt q j ⌝ }
 {
     let count = q.count as usize;
@@ -59,43 +65,29 @@ fn leg_at(q: Question, j: usize) -> Leg
             fare: 0,
         };
     }
-    if 8 <= j {
-        return Leg {
-            railway: 0,
-            fare: 0,
-        };
-    }
     let legs = q.legs;
     legs[j]
 }
 
-fn leg_word(leg: Leg, r: usize) -> u32
-    ensures { λ v. ⌜ v ≡ legWord leg r ⌝ }
+// The words of a question as a book keeps them.
+pub fn question_words(q: Question) -> [u32; QUESTION_WIDTH]
+    ensures { λ r. ⌜ r ≡ questionWords q ⌝ }
 {
-    match r {
-        0 => leg.railway,
-        1 => leg.fare,
-        _ => 0,
+    let mut words = [0u32; QUESTION_WIDTH];
+    words[OFFER] = q.offer;
+    words[DAY] = q.day;
+    words[CARDS] = q.card;
+    words[COUNT] = q.count;
+    words[PERSONS] = q.persons;
+    let mut j = 0;
+    while j < 8 {
+        let leg = leg_at(q, j);
+        let at = LEGS + LEG_WIDTH * j;
+        words[at] = leg.railway;
+        words[at + 1] = leg.fare;
+        j += 1;
     }
-}
-
-// Word k of a question as a book keeps it.
-pub fn question_word(q: Question, k: usize) -> u32
-    ensures { λ r. ⌜ r ≡ questionWord q k ⌝ }
-{
-    match k {
-        OFFER => q.offer,
-        DAY => q.day,
-        CARD => q.card,
-        COUNT => q.count,
-        PERSONS => q.persons,
-        _ => {
-            if k < LEGS {
-                return 0;
-            }
-            leg_word(leg_at(q, (k - LEGS) / LEG_WIDTH), (k - LEGS) % LEG_WIDTH)
-        }
-    }
+    words
 }
 
 fn leg_in(words: &[u32], j: usize) -> Leg
@@ -109,7 +101,7 @@ fn leg_in(words: &[u32], j: usize) -> Leg
     }
 }
 
-// The question that the words of an entry say, which start at a place.
+// The question that words say.
 pub fn question_in(words: &[u32]) -> Question
     requires { ⌜ length (now words) ≡ questionWidth ⌝ }
     ensures { λ r. ⌜ r ≡ questionOf (now (words .entry)) ⌝ }
@@ -118,7 +110,7 @@ pub fn question_in(words: &[u32]) -> Question
         offer: words[OFFER],
         day: words[DAY],
         persons: words[PERSONS],
-        card: words[CARD],
+        card: words[CARDS],
         count: words[COUNT],
         legs: [
             leg_in(words, 0),
@@ -133,6 +125,23 @@ pub fn question_in(words: &[u32]) -> Question
     }
 }
 
+// Whether words are those of a question: as many are alike as there are, which a processor counts several at a time.
+pub fn says(words: &[u32], q: Question) -> bool
+    requires { ⌜ length (now words) ≡ questionWidth ⌝ }
+    ensures { λ r. ⌜ r ≡ same (now (words .entry)) (questionWords q) ⌝ }
+{
+    let own = question_words(q);
+    let mut alike: u32 = 0;
+    let mut k = 0;
+    while k < QUESTION_WIDTH {
+        if words[k] == own[k] {
+            alike += 1;
+        }
+        k += 1;
+    }
+    alike as usize == QUESTION_WIDTH
+}
+
 // The eight words from a place on.
 pub fn parts_in(book: &[u32], at: usize) -> [u32; 8]
     requires { ⌜ at + 8 ≤ length (now book) ⌝ }
@@ -145,55 +154,4 @@ pub fn parts_in(book: &[u32], at: usize) -> [u32; 8]
         j += 1;
     }
     parts
-}
-
-// Whether the words before the legs are those of a question.
-fn head_says(words: &[u32], q: Question) -> bool
-    requires { ⌜ length (now words) ≡ questionWidth ⌝ }
-    ensures { λ r. ⌜ r ≡ same (take legsAt (now (words .entry))) (take legsAt (questionWords q)) ⌝ }
-{
-    let mut k = 0;
-    while k < LEGS {
-        if words[k] != question_word(q, k) {
-            return false;
-        }
-        k += 1;
-    }
-    true
-}
-
-// Whether the words of leg j are those of a leg.
-fn leg_says(words: &[u32], j: usize, leg: Leg) -> bool
-    requires { ⌜ (length (now words) ≡ questionWidth) × (j < 8) ⌝ }
-    ensures { λ r. ⌜ r ≡ legSays (now (words .entry)) j leg ⌝ }
-{
-    let at = LEGS + LEG_WIDTH * j;
-    if words[at] != leg.railway {
-        return false;
-    }
-    if words[at + 1] != leg.fare {
-        return false;
-    }
-    if words[at + 2] != 0 {
-        return false;
-    }
-    words[at + 3] == 0
-}
-
-// Whether words are those of a question.
-pub fn says(words: &[u32], q: Question) -> bool
-    requires { ⌜ length (now words) ≡ questionWidth ⌝ }
-    ensures { λ r. ⌜ r ≡ same (now (words .entry)) (questionWords q) ⌝ }
-{
-    if !head_says(words, q) {
-        return false;
-    }
-    let mut j = 0;
-    while j < 8 {
-        if !leg_says(words, j, leg_at(q, j)) {
-            return false;
-        }
-        j += 1;
-    }
-    true
 }

@@ -4,13 +4,13 @@ use Prim.Native.Nat.{ℕ, zero, suc, _+_, _≤_, _<_, zero-le, suc-le-suc}
 use mathlib.Core.Path.{_≡_, refl, sym, _∙_, ap, ap₂}
 use mathlib.Core.Bool.{Bool, true, false, cond, _&&_, _||_, or-true, and-assoc}
 use mathlib.Core.Logic.{⊎-elim}
-use mathlib.Core.List.{List, [], _∷_, _++_}
+use mathlib.Core.List.{List, [], _∷_, _++_, map}
 use native.Mathlib.Nat.{zero-add, le-of-suc-le-suc, not-suc-le-zero}
 use native.Mathlib.Omega.{arith}
 use native.Mathlib.Numerals.{add-one, one-add}
 use lib.Dec.{eqb, ltb, leb·suc-suc}
-use lib.ListN.{length, getD, take, drop, drop-of-length-le, length-append, List·getD-append}
-use lib.Seq.{drop-cons, getD-drop, getD-at, take-nil}
+use lib.ListN.{length, getD, take, drop, set, replicate, drop-of-length-le, length-append, length-drop, List·getD-append}
+use lib.Seq.{drop-cons, drop-append-le, take-append-le, take-nil, getD-drop, getD-at}
 use borrow.Author.Tests.{eq-eqb, eqb-true, lt-ltb}
 use Rattle.common.specs.Least.{least}
 use Rattle.common.specs.Lists.{every, any, same, firstOf, upTo}
@@ -154,3 +154,49 @@ pub every-so : {A : Type 0} (p q : A → Bool) (xs : List A) → ((x : A) → p 
 unfolding every
 every-so p q [] f e = refl
 every-so p q (x ∷ xs) f e = let d = both-true (p x) (every p xs) e in rw (f x (d .0), every-so p q xs f (d .1))
+
+module _ {A : Type 0} (p : A → Bool) where
+  pub every-drop : (xs : List A) (k : ℕ) → every p xs ≡ true → every p (drop k xs) ≡ true
+  unfolding every
+  every-drop [] zero e = refl
+  every-drop [] (suc k) e = refl
+  every-drop (x ∷ xs) zero e = e
+  every-drop (x ∷ xs) (suc k) e = every-drop xs k (both-true (p x) (every p xs) e .1)
+
+  pub every-by : (d : A) (xs : List A) → ((i : ℕ) → i < length xs → p (getD xs i d) ≡ true) → every p xs ≡ true
+  unfolding every
+  every-by d [] f = refl
+  every-by d (x ∷ xs) f = rw (f 0 (omega arith)) (every-by d xs (λ i l. f (suc i) (omega arith)))
+
+  pub every-replicate : (x : A) → p x ≡ true → (k : ℕ) → every p (replicate k x) ≡ true
+  unfolding every
+  every-replicate x e zero = refl
+  every-replicate x e (suc k) = rw e (every-replicate x e k)
+
+  pub every-map : (g : A → A) → ((x : A) → p x ≡ true → p (g x) ≡ true) → (xs : List A) → every p xs ≡ true → every p (map g xs) ≡ true
+  unfolding every
+  every-map g f [] e = refl
+  every-map g f (x ∷ xs) e = let d = both-true (p x) (every p xs) e in rw (f x (d .0)) (every-map g f xs (d .1))
+
+pub zero-at : (xs : List ℕ) → every (λ x. eqb x 0) xs ≡ true → (i : ℕ) → getD xs i 0 ≡ 0
+unfolding every
+zero-at [] z i = refl
+zero-at (x ∷ xs) z zero = eqb-true x 0 (both-true (eqb x 0) (every (λ x. eqb x 0) xs) z .0)
+zero-at (x ∷ xs) z (suc i) = zero-at xs (both-true (eqb x 0) (every (λ x. eqb x 0) xs) z .1) i
+
+-- a part that lies in the first of two lists
+pub part-front : {A : Type 0} (p q : List A) (a k : ℕ) → a + k ≤ length p → take k (drop a (p ++ q)) ≡ take k (drop a p)
+part-front p q a k l = rw (drop-append-le a p q (omega arith)) (take-append-le k (drop a p) q (rw length-drop (omega arith)))
+
+-- MAPPED: where nothing changes, and where one element does
+pub map-fixed : {A : Type 0} (g : A → A) (d : A) (xs : List A) → ((j : ℕ) → j < length xs → g (getD xs j d) ≡ getD xs j d) → map g xs ≡ xs
+map-fixed g d [] f = refl
+map-fixed g d (x ∷ xs) f = ap₂ _∷_ (f 0 (omega arith)) (map-fixed g d xs (λ j l. f (suc j) (omega arith)))
+
+pub set-map : {A : Type 0} (p : A → Bool) (g : A → A) (d : A) (xs : List A) (i : ℕ) → i < length xs → p (getD xs i d) ≡ true
+    → ((j : ℕ) → j < length xs → (j ≡ i → ⊥) → p (getD xs j d) ≡ false) → set xs i (g (getD xs i d)) ≡ map (λ x. cond (p x) (g x) x) xs
+set-map p g d [] i l h f = absurd (omega arith)
+set-map p g d (x ∷ xs) zero l h f =
+    ap₂ _∷_ (sym (rw h)) (sym (map-fixed (λ y. cond (p y) (g y) y) d xs (λ j m. rw (f (suc j) (omega arith) (λ e. omega arith)))))
+set-map p g d (x ∷ xs) (suc i) l h f =
+    ap₂ _∷_ (sym (rw (f 0 (omega arith) (λ e. omega arith)))) (set-map p g d xs i (omega arith) h (λ j m n. f (suc j) (omega arith) (λ e. n (omega arith))))

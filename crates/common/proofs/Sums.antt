@@ -1,14 +1,20 @@
 -- Sums, a list that is filled from the front with zeros behind, and f 0, f 1, .., f (n - 1) as a list.
 -- Assumes nothing.
 use Prim.Native.Nat.{ℕ, zero, suc, _+_, _-_, _*_, _≤_, _<_}
-use mathlib.Core.Path.{_≡_, refl, sym}
+use mathlib.Core.Path.{_≡_, refl, sym, _∙_, ap}
+use mathlib.Core.Bool.{Bool, true, false, cond, _&&_}
+use mathlib.Core.Logic.{_⊎_, inl, inr}
 use mathlib.Core.List.{List, [], _∷_, _++_, append-assoc, map, map-append}
 use native.Mathlib.Nat.{zero-add, suc-mul}
 use native.Mathlib.Numerals.{add-one}
 use native.Mathlib.Omega.{arith}
+use lib.Dec.{eqb}
 use lib.ListN.{length, take, getD, set, replicate, length-map, length-take}
 use lib.Seq.{set-at, take-suc}
-use Rattle.common.specs.Lists.{sum, upTo}
+use borrow.Author.Tests.{eq-eqb, ne-eqb, eqb-true}
+use Rattle.common.specs.Lists.{sum, every, upTo}
+use Rattle.common.proofs.Tests.{never, side}
+use Rattle.common.proofs.Lists.{upto-same}
 
 pub sum-append : (a b : List ℕ) → sum (a ++ b) ≡ sum a + sum b
 unfolding sum
@@ -49,7 +55,7 @@ sum-small f xs d b (suc k) l h =
     omega (arith, e, h k (omega arith), sum-small f xs d b k (omega arith) (λ j g. h j (omega arith)), suc-mul k b)
 
 -- an element of what a function made of a list
-pub map-at : {A : Type 0} (f : A → ℕ) (xs : List A) (k z : ℕ) (d : A) → k < length xs → getD (map f xs) k z ≡ f (getD xs k d)
+pub map-at : {A B : Type 0} (f : A → B) (xs : List A) (k : ℕ) (z : B) (d : A) → k < length xs → getD (map f xs) k z ≡ f (getD xs k d)
 map-at f [] k z d l = absurd (omega arith)
 map-at f (x ∷ xs) zero z d l = refl
 map-at f (x ∷ xs) (suc k) z d l = map-at f xs k z d (omega arith)
@@ -71,3 +77,66 @@ sum-up-small f b (suc k) h =
       h k (omega arith),
       suc-mul k b,
     )
+
+-- the sum of one word more
+pub sum-taken : (xs : List ℕ) (k : ℕ) → k < length xs → sum (take (k + 1) xs) ≡ sum (take k xs) + getD xs k 0
+unfolding sum
+sum-taken xs k l = rw (add-one, take-suc xs k 0 l) (omega (arith, sum-append (take k xs) (getD xs k 0 ∷ [])))
+
+-- a sum is zero exactly if each of its words is
+zero-by : (x n : ℕ) (b : Bool) → eqb x 0 ≡ b → eqb (x + n) 0 ≡ (b && eqb n 0)
+zero-by x n true e = let x0 : x ≡ 0 = eqb-true x 0 e in let z : x + n ≡ n = omega arith in ap (λ m. eqb m 0) z
+zero-by x n false e = ne-eqb (x + n) 0 (λ h. let z : x ≡ 0 = omega arith in never (eq-eqb x 0 z) e)
+
+pub zero-sum : (xs : List ℕ) → eqb (sum xs) 0 ≡ every (λ x. eqb x 0) xs
+unfolding sum every
+zero-sum [] = refl
+zero-sum (x ∷ xs) = zero-by x (sum xs) (eqb x 0) refl ∙ ap (λ b. eqb x 0 && b) (zero-sum xs)
+
+-- SUMS of sums, added and swapped
+pub sum-both : (f g : ℕ → ℕ) (n : ℕ) → sum (upTo (λ r. f r + g r) n) ≡ sum (upTo f n) + sum (upTo g n)
+unfolding upTo sum
+sum-both f g zero = refl
+sum-both f g (suc n) =
+    omega (arith, sum-append (upTo (λ r. f r + g r) n) ((f n + g n) ∷ []), sum-append (upTo f n) (f n ∷ []), sum-append (upTo g n) (g n ∷ []), sum-both f g n)
+
+pub sum-nothing : (n : ℕ) → sum (upTo (λ r. 0) n) ≡ 0
+unfolding upTo sum
+sum-nothing zero = refl
+sum-nothing (suc n) = omega (arith, sum-append (upTo (λ r. 0) n) (0 ∷ []), sum-nothing n)
+
+pub sum-swapped : (f : ℕ → ℕ → ℕ) (m n : ℕ) → sum (upTo (λ r. sum (upTo (f r) m)) n) ≡ sum (upTo (λ j. sum (upTo (λ r. f r j) n)) m)
+unfolding upTo sum
+sum-swapped f zero n = sum-nothing n
+sum-swapped f (suc m) n =
+    ap sum (upto-same (λ r. sum (upTo (f r) m ++ (f r m ∷ []))) (λ r. sum (upTo (f r) m) + f r m) n (λ r l. sum-append (upTo (f r) m) (f r m ∷ []) ∙ omega arith))
+    ∙ (sum-both (λ r. sum (upTo (f r) m)) (λ r. f r m) n
+    ∙ omega (arith, sum-swapped f m n, sum-append (upTo (λ j. sum (upTo (λ r. f r j) n)) m) (sum (upTo (λ r. f r m) n) ∷ [])))
+
+-- over all numbers 1 to n, one hit counts once
+module _ (x p : ℕ) where
+  abbrev pub hits : ℕ → ℕ
+  hits r = cond (eqb x (r + 1)) p 0
+
+  one-more : (n : ℕ) → sum (upTo hits (suc n)) ≡ sum (upTo hits n) + hits n
+  unfolding upTo sum
+  one-more n = sum-append (upTo hits n) (hits n ∷ []) ∙ omega arith
+
+  no-hit : (n : ℕ) → n < x → sum (upTo hits n) ≡ 0
+  unfolding upTo sum
+  no-hit zero l = refl
+  no-hit (suc n) l =
+      let z : hits n ≡ 0 = rw (ne-eqb x (n + 1) (λ e. omega arith)) in
+      omega (arith, one-more n, no-hit n (omega arith))
+
+  one-hit-by : (n : ℕ) → 1 ≤ x → x ≤ suc n → (x ≤ n → sum (upTo hits n) ≡ p) → (x < suc n) ⊎ (suc n ≤ x) → sum (upTo hits (suc n)) ≡ p
+  one-hit-by n a b ih (inl h) =
+      let z : hits n ≡ 0 = rw (ne-eqb x (n + 1) (λ e. omega arith)) in
+      omega (arith, one-more n, ih (omega arith))
+  one-hit-by n a b ih (inr h) =
+      let z : hits n ≡ p = rw (eq-eqb x (n + 1) (omega arith)) in
+      omega (arith, one-more n, no-hit n (omega arith))
+
+  pub one-hit : (n : ℕ) → 1 ≤ x → x ≤ n → sum (upTo hits n) ≡ p
+  one-hit zero a b = absurd (omega arith)
+  one-hit (suc n) a b = one-hit-by n a b (one-hit n a) (side x (suc n))

@@ -3,7 +3,7 @@
 use Prim.Native.Nat.{ℕ, zero, suc, _≤_, _<_, zero-le, suc-le-suc}
 use mathlib.Core.Path.{_≡_, refl, sym, _∙_, ap}
 use mathlib.Core.Logic.{_⊎_, inl, inr, ⊎-elim}
-use mathlib.Core.Bool.{Bool, true, false, not, _&&_, _||_}
+use mathlib.Core.Bool.{Bool, true, false, cond, not, _&&_, _||_}
 use native.Mathlib.Omega.{arith}
 use native.Mathlib.Decide.{decLt}
 use lib.Dec.{leb}
@@ -46,3 +46,13 @@ order zero (suc b) = inl (suc-le-suc zero-le)
 order (suc a) zero = inr (inr (suc-le-suc zero-le))
 order (suc a) (suc b) =
     ⊎-elim (λ h. inl (suc-le-suc h)) (λ r. inr (⊎-elim (λ e. inl (ap suc e)) (λ h. inr (suc-le-suc h)) r)) (order a b)
+
+-- a test that cannot hold fails
+pub refuted : (b : Bool) → (b ≡ true → ⊥) → b ≡ false
+refuted true h = absurd (h refl)
+refuted false h = refl
+
+-- a choice between the same
+pub either-way : {A : Type 0} (b : Bool) (x : A) → cond b x x ≡ x
+either-way true x = refl
+either-way false x = refl

@@ -3,8 +3,8 @@ ghost use mathlib.Core.Path.{_≡_};
 ghost use mathlib.Core.List.{_∷_};
 ghost use Rattle.bundle.specs.Verdict.{verdictOf};
 ghost use Rattle.fares.specs.Fare.{fareOf};
-ghost use Rattle.book.specs.Sales.{saleAnswer, saleWords, cancelAnswer, cancelWords};
-ghost use Rattle.book.specs.Balances.{balanceAnswer, totalAnswer};
+ghost use Rattle.sales.specs.Sales.{saleAnswer, saleWords, cancelAnswer, cancelWords};
+ghost use Rattle.sales.specs.Balances.{balanceAnswer, totalAnswer};
 ghost use Rattle.offers.specs.Answers.{answers, verdictTells, fareTells, receiptTells, sumTells};
 ghost use Rattle.edge.specs.Replies.{judgementReply, quoteReply, receiptReply, sumReply};
 use offers::Judgement;
@@ -124,7 +124,7 @@ fn flatten_receipt(receipt: Receipt) -> ReceiptReply
     let parts = receipt.parts;
     match outcome {
         Outcome::Booked => answered(BOOKED, 0, parts),
-        Outcome::AlreadyBooked(mark) => answered(ALREADY_BOOKED, mark, parts),
+        Outcome::AlreadyBooked(status) => answered(ALREADY_BOOKED, status, parts),
         Outcome::Cancelled => answered(CANCELLED, 1, parts),
         Outcome::AlreadyCancelled => answered(ALREADY_CANCELLED, 1, parts),
         Outcome::Refused(number, place, detail) => ReceiptReply {

@@ -19,11 +19,12 @@ use Rattle.fares.specs.Legs.{legChecks}
 use Rattle.fares.specs.Fare.{partsOf, priceChecks, fareChecks, quoted, fareOf}
 use Rattle.fares.specs.declared.Question.{Question}
 use Rattle.book.specs.Words.{capacity, entries}
-use Rattle.book.specs.Sales.{unlessFault, receipt, isPresent, present, saleChecks, saleAnswer, cancelChecks, cancelAnswer}
-use Rattle.book.specs.Balances.{ofRailway, ofAll, balanceOf, summed, balanceChecks, totalChecks, balanceAnswer, totalAnswer}
-use Rattle.book.specs.declared.Receipt.{Receipt}
-use Rattle.book.specs.declared.Outcome.{Outcome}
-use Rattle.book.specs.declared.Outcome.the-variants.{Booked, AlreadyBooked, Cancelled, AlreadyCancelled, Refused as NoEntry}
+use Rattle.sales.specs.Sales.{unlessFault, receipt, isPresent, present, saleChecks, saleAnswer, cancelChecks, cancelAnswer}
+use Rattle.book.specs.Amounts.{ofRailway, ofAll, balanceOf}
+use Rattle.sales.specs.Balances.{summed, balanceChecks, totalChecks, balanceAnswer, totalAnswer}
+use Rattle.sales.specs.declared.Receipt.{Receipt}
+use Rattle.sales.specs.declared.Outcome.{Outcome}
+use Rattle.sales.specs.declared.Outcome.the-variants.{Booked, AlreadyBooked, Cancelled, AlreadyCancelled, Refused as NoEntry}
 use Rattle.offers.specs.Answers.{Told, answers, refuses, verdictTells, pricingTells, fareTells, booked, alreadyBooked, cancelled, alreadyCancelled, outcomeTells, receiptTells, sumTells, Follows}
 use Rattle.offers.specs.Answers.{verdictNumbers, fareNumbers, saleNumbers, cancelNumbers, balanceNumbers, totalNumbers, Among}
 
@@ -92,14 +93,14 @@ module _ (w : List ℕ) where
     told-receipt clean r vs e = e
     told-receipt (fault k p d) r vs e = refl
 
-    told-sold : (b : Bool) (again first : List ℕ) → let mark = present w t s .mark in
-        receiptTells (cond b (receipt (AlreadyBooked mark) again) (receipt Booked first)) ≡ answers (cond b (alreadyBooked ∷ mark ∷ again) (booked ∷ 0 ∷ first))
+    told-sold : (b : Bool) (again first : List ℕ) → let status = present w t s .status in
+        receiptTells (cond b (receipt (AlreadyBooked status) again) (receipt Booked first)) ≡ answers (cond b (alreadyBooked ∷ status ∷ again) (booked ∷ 0 ∷ first))
     unfolding receiptTells outcomeTells
     told-sold true again first = refl
     told-sold false again first = refl
 
     pub sale-follows : (b : List ℕ) (q : Question) → Follows (receiptTells (saleAnswer w t s b q)) (saleChecks w t s b q) 10
-        (cond (isPresent w t s) (alreadyBooked ∷ present w t s .mark ∷ present w t s .parts) (booked ∷ 0 ∷ partsOf (recordsOf b) q))
+        (cond (isPresent w t s) (alreadyBooked ∷ present w t s .status ∷ present w t s .parts) (booked ∷ 0 ∷ partsOf (recordsOf b) q))
     unfolding saleAnswer
     sale-follows b q =
         follows _ (saleChecks w t s b q) 10 _
@@ -112,11 +113,11 @@ module _ (w : List ℕ) where
     told-cancelled false parts = refl
 
     pub cancel-follows : Follows (receiptTells (cancelAnswer w t s)) (cancelChecks w t s) 10
-        (cond (eqb (present w t s .mark) 0) cancelled alreadyCancelled ∷ 1 ∷ present w t s .parts)
+        (cond (eqb (present w t s .status) 0) cancelled alreadyCancelled ∷ 1 ∷ present w t s .parts)
     unfolding cancelAnswer
     cancel-follows =
         follows _ (cancelChecks w t s) 10 _
-        (told-receipt (firstFault (cancelChecks w t s)) _ _ (told-cancelled (eqb (present w t s .mark) 0) (present w t s .parts)))
+        (told-receipt (firstFault (cancelChecks w t s)) _ _ (told-cancelled (eqb (present w t s .status) 0) (present w t s .parts)))
 
 -- The numbers of each call.
 module _ (s : List ℕ) where
@@ -175,7 +176,7 @@ told-accepted (Refused k p d) n e = let z : _≡_ {A = ℕ} 0 1 = cc in absurd (
 outcome-booked : (o : Outcome) (ps parts : List ℕ) → outcomeTells o ps ≡ answers (booked ∷ 0 ∷ parts) → (o ≡ Booked) × (ps ≡ parts)
 unfolding outcomeTells
 outcome-booked Booked ps parts e = (refl, cc)
-outcome-booked (AlreadyBooked mark) ps parts e = let z : alreadyBooked ≡ booked = cc in absurd (omega (arith, z))
+outcome-booked (AlreadyBooked status) ps parts e = let z : alreadyBooked ≡ booked = cc in absurd (omega (arith, z))
 outcome-booked Cancelled ps parts e = let z : cancelled ≡ booked = cc in absurd (omega (arith, z))
 outcome-booked AlreadyCancelled ps parts e = let z : alreadyCancelled ≡ booked = cc in absurd (omega (arith, z))
 outcome-booked (NoEntry k p d) ps parts e = let z : _≡_ {A = ℕ} 0 1 = cc in absurd (omega arith)

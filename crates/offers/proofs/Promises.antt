@@ -34,15 +34,16 @@ use Rattle.fares.proofs.Meaning.{each-part, never-sixteen}
 use Rattle.fares.proofs.Grants.{rounded-as-said, conditions-lawful, card-lawful}
 use Rattle.book.specs.Words.{entries, questionWords}
 use Rattle.book.specs.Sound.{soundWords}
-use Rattle.book.specs.Sales.{isPresent, present, saleChecks, saleAnswer, saleWords, cancelChecks, cancelAnswer, cancelWords}
-use Rattle.book.specs.Balances.{ofRailway, ofAll, balanceOf, balanceChecks, totalChecks, balanceAnswer, totalAnswer}
-use Rattle.book.specs.History.{Number, Op, sale, emptyBook, after, cancelledIn, owed}
-use Rattle.book.specs.declared.Receipt.{Receipt}
-use Rattle.book.specs.declared.Sum.{Sum}
-use Rattle.book.proofs.Owed.{balance-is-owed, always-sound}
-use Rattle.book.proofs.Totals.{total-is-sum}
-use Rattle.book.proofs.Resent.{told-first, refused-other, nothing-changes}
-use Rattle.book.proofs.JudgeLaws.{booked-parts, not-booked-stays, not-cancelled-stays}
+use Rattle.sales.specs.Sales.{isPresent, present, saleChecks, saleAnswer, saleWords, cancelChecks, cancelAnswer, cancelWords}
+use Rattle.book.specs.Amounts.{ofRailway, ofAll, balanceOf}
+use Rattle.sales.specs.Balances.{balanceChecks, totalChecks, balanceAnswer, totalAnswer}
+use Rattle.sales.specs.History.{Number, Op, sale, emptyBook, after, cancelledIn, owed}
+use Rattle.sales.specs.declared.Receipt.{Receipt}
+use Rattle.sales.specs.declared.Sum.{Sum}
+use Rattle.sales.proofs.BalanceIsOwed.{balance-is-owed, always-sound}
+use Rattle.book.proofs.TotalIsSum.{total-is-sum}
+use Rattle.sales.proofs.SentAgain.{told-first, refused-other, nothing-changes}
+use Rattle.sales.proofs.AnswersByCase.{booked-parts, not-booked-stays, not-cancelled-stays}
 use Rattle.offers.specs.Answers.{answers, refuses, verdictTells, fareTells, booked, alreadyBooked, cancelled, alreadyCancelled, outcomeTells, receiptTells, sumTells}
 use Rattle.offers.specs.Answers.{Follows, Among, verdictNumbers, fareNumbers, saleNumbers, cancelNumbers, balanceNumbers, totalNumbers}
 use Rattle.offers.proofs.Orders.{verdict-follows, fare-follows, sale-follows, cancel-follows, balance-follows, total-follows}
@@ -58,20 +59,20 @@ pub a-fare-follows-its-checks : (s : List ℕ) (q : Question) → let parts = pa
     Follows (fareTells (fareOf s q)) (fareChecks s q) 9 (sum parts ∷ parts)
 a-fare-follows-its-checks = fare-follows
 
-pub a-sale-follows-its-checks : (w : List ℕ) (t s : ℕ) (b : List ℕ) (q : Question) → let e = present w t s in
-    Follows (receiptTells (saleAnswer w t s b q)) (saleChecks w t s b q) 10
-    (cond (isPresent w t s) (alreadyBooked ∷ e .mark ∷ e .parts) (booked ∷ 0 ∷ partsOf (recordsOf b) q))
+pub a-sale-follows-its-checks : (book : List ℕ) (till sequence : ℕ) (bundle : List ℕ) (q : Question) → let e = present book till sequence in
+    Follows (receiptTells (saleAnswer book till sequence bundle q)) (saleChecks book till sequence bundle q) 10
+    (cond (isPresent book till sequence) (alreadyBooked ∷ e .status ∷ e .parts) (booked ∷ 0 ∷ partsOf (recordsOf bundle) q))
 a-sale-follows-its-checks = sale-follows
 
-pub a-cancellation-follows-its-checks : (w : List ℕ) (t s : ℕ) → let e = present w t s in
-    Follows (receiptTells (cancelAnswer w t s)) (cancelChecks w t s) 10 (cond (eqb (e .mark) 0) cancelled alreadyCancelled ∷ 1 ∷ e .parts)
+pub a-cancellation-follows-its-checks : (book : List ℕ) (till sequence : ℕ) → let e = present book till sequence in
+    Follows (receiptTells (cancelAnswer book till sequence)) (cancelChecks book till sequence) 10 (cond (eqb (e .status) 0) cancelled alreadyCancelled ∷ 1 ∷ e .parts)
 a-cancellation-follows-its-checks = cancel-follows
 
-pub a-balance-follows-its-checks : (w : List ℕ) (railway : ℕ)
-    → Follows (sumTells (balanceAnswer w railway)) (balanceChecks w railway) 1 (balanceOf (ofRailway railway) (entries w) ∷ [])
+pub a-balance-follows-its-checks : (book : List ℕ) (railway : ℕ)
+    → Follows (sumTells (balanceAnswer book railway)) (balanceChecks book railway) 1 (balanceOf (ofRailway railway) (entries book) ∷ [])
 a-balance-follows-its-checks = balance-follows
 
-pub a-total-follows-its-checks : (w : List ℕ) → Follows (sumTells (totalAnswer w)) (totalChecks w) 1 (balanceOf ofAll (entries w) ∷ [])
+pub a-total-follows-its-checks : (book : List ℕ) → Follows (sumTells (totalAnswer book)) (totalChecks book) 1 (balanceOf ofAll (entries book) ∷ [])
 a-total-follows-its-checks = total-follows
 
 -- No call tells a number that is not in its table.
@@ -81,18 +82,18 @@ the-numbers-of-a-verdict s = refused-among verdictNumbers (verdict-follows s) (v
 pub the-numbers-of-a-fare : (s : List ℕ) (q : Question) (k p d : ℕ) (us : List ℕ) → fareTells (fareOf s q) ≡ refuses k p d us → Among fareNumbers k
 the-numbers-of-a-fare s q = refused-among fareNumbers (fare-follows s q) (fare-numbers s q)
 
-pub the-numbers-of-a-sale : (w : List ℕ) (t s : ℕ) (b : List ℕ) (q : Question) (k p d : ℕ) (us : List ℕ)
-    → receiptTells (saleAnswer w t s b q) ≡ refuses k p d us → Among saleNumbers k
-the-numbers-of-a-sale w t s b q = refused-among saleNumbers (sale-follows w t s b q) (sale-numbers b w t s q)
+pub the-numbers-of-a-sale : (book : List ℕ) (till sequence : ℕ) (bundle : List ℕ) (q : Question) (k p d : ℕ) (us : List ℕ)
+    → receiptTells (saleAnswer book till sequence bundle q) ≡ refuses k p d us → Among saleNumbers k
+the-numbers-of-a-sale book till sequence bundle q = refused-among saleNumbers (sale-follows book till sequence bundle q) (sale-numbers bundle book till sequence q)
 
-pub the-numbers-of-a-cancellation : (w : List ℕ) (t s k p d : ℕ) (us : List ℕ) → receiptTells (cancelAnswer w t s) ≡ refuses k p d us → Among cancelNumbers k
-the-numbers-of-a-cancellation w t s = refused-among cancelNumbers (cancel-follows w t s) (cancel-numbers w t s)
+pub the-numbers-of-a-cancellation : (book : List ℕ) (till sequence k p d : ℕ) (us : List ℕ) → receiptTells (cancelAnswer book till sequence) ≡ refuses k p d us → Among cancelNumbers k
+the-numbers-of-a-cancellation book till sequence = refused-among cancelNumbers (cancel-follows book till sequence) (cancel-numbers book till sequence)
 
-pub the-numbers-of-a-balance : (w : List ℕ) (railway k p d : ℕ) (us : List ℕ) → sumTells (balanceAnswer w railway) ≡ refuses k p d us → Among balanceNumbers k
-the-numbers-of-a-balance w railway = refused-among balanceNumbers (balance-follows w railway) (balance-numbers w railway)
+pub the-numbers-of-a-balance : (book : List ℕ) (railway k p d : ℕ) (us : List ℕ) → sumTells (balanceAnswer book railway) ≡ refuses k p d us → Among balanceNumbers k
+the-numbers-of-a-balance book railway = refused-among balanceNumbers (balance-follows book railway) (balance-numbers book railway)
 
-pub the-numbers-of-a-total : (w : List ℕ) (k p d : ℕ) (us : List ℕ) → sumTells (totalAnswer w) ≡ refuses k p d us → Among totalNumbers k
-the-numbers-of-a-total w = refused-among totalNumbers (total-follows w) (total-numbers w)
+pub the-numbers-of-a-total : (book : List ℕ) (k p d : ℕ) (us : List ℕ) → sumTells (totalAnswer book) ≡ refuses k p d us → Among totalNumbers k
+the-numbers-of-a-total book = refused-among totalNumbers (total-follows book) (total-numbers book)
 
 -- DEMAND 2. A bundle is accepted with n only if it is n records that keep every rule, and if it is.
 pub accepted-keeps-the-rules : (s : List ℕ) (n : ℕ) → verdictTells (verdictOf s) ≡ answers (n ∷ []) → Good s (recordsOf s) × (length (recordsOf s) ≡ n)
@@ -181,52 +182,52 @@ unfolding totalAnswer firstFault sumTells
 the-total-is-what-the-history-tells ops = rw (always-sound ops, balance-is-owed ofAll ops)
 
 -- and in every sound book the total is the sum of the balances of railways 1 to 9999.
-pub the-total-is-the-sum-of-the-balances : (w : List ℕ) → soundWords w ≡ true
-    → balanceOf ofAll (entries w) ≡ sum (upTo (λ r. balanceOf (ofRailway (r + 1)) (entries w)) 9999)
+pub the-total-is-the-sum-of-the-balances : (book : List ℕ) → soundWords book ≡ true
+    → balanceOf ofAll (entries book) ≡ sum (upTo (λ r. balanceOf (ofRailway (r + 1)) (entries book)) 9999)
 the-total-is-the-sum-of-the-balances = total-is-sum
 
 -- A sale booked in any history and sent again after any other, with any bundle: the same question is told the very parts that it was told first, and
 -- whether it is cancelled; another is refused with the entry's place; and neither changes a word.
-module _ (first : List Op) (n : Number) (b : List ℕ) (q : Question) (more : List Op) (parts : List ℕ)
-    (sold : receiptTells (saleAnswer (after emptyBook first) (n .till) (n .sequence) b q) ≡ answers (booked ∷ 0 ∷ parts)) where
+module _ (first : List Op) (n : Number) (bundle : List ℕ) (q : Question) (more : List Op) (parts : List ℕ)
+    (sold : receiptTells (saleAnswer (after emptyBook first) (n .till) (n .sequence) bundle q) ≡ answers (booked ∷ 0 ∷ parts)) where
   abbrev now : List ℕ
-  now = after emptyBook (first ++ (sale n b q ∷ more))
+  now = after emptyBook (first ++ (sale n bundle q ∷ more))
 
-  pub sent-again-is-told-its-first-amounts : (b′ : List ℕ) (q′ : Question) → same (questionWords q) (questionWords q′) ≡ true
-      → receiptTells (saleAnswer now (n .till) (n .sequence) b′ q′) ≡ answers (alreadyBooked ∷ cond (cancelledIn n more) 1 0 ∷ parts)
+  pub sent-again-is-told-its-first-amounts : (bundle′ : List ℕ) (q′ : Question) → same (questionWords q) (questionWords q′) ≡ true
+      → receiptTells (saleAnswer now (n .till) (n .sequence) bundle′ q′) ≡ answers (alreadyBooked ∷ cond (cancelledIn n more) 1 0 ∷ parts)
   unfolding receiptTells outcomeTells
-  sent-again-is-told-its-first-amounts b′ q′ e =
+  sent-again-is-told-its-first-amounts bundle′ q′ e =
       let r = told-booked _ parts sold in
-      rw (told-first first n b q more (r .0) b′ q′ e) (ap (λ x. answers (alreadyBooked ∷ cond (cancelledIn n more) 1 0 ∷ x)) (sym (booked-parts _ _ _ b q (r .0)) ∙ r .1))
+      rw (told-first first n bundle q more (r .0) bundle′ q′ e) (ap (λ x. answers (alreadyBooked ∷ cond (cancelledIn n more) 1 0 ∷ x)) (sym (booked-parts _ _ _ bundle q (r .0)) ∙ r .1))
 
-  pub another-question-is-refused : (b′ : List ℕ) (q′ : Question) → same (questionWords q) (questionWords q′) ≡ false
-      → receiptTells (saleAnswer now (n .till) (n .sequence) b′ q′) ≡ refuses 23 (length (entries (after emptyBook first))) 0 (replicate 10 0)
+  pub another-question-is-refused : (bundle′ : List ℕ) (q′ : Question) → same (questionWords q) (questionWords q′) ≡ false
+      → receiptTells (saleAnswer now (n .till) (n .sequence) bundle′ q′) ≡ refuses 23 (length (entries (after emptyBook first))) 0 (replicate 10 0)
   unfolding receiptTells outcomeTells
-  another-question-is-refused b′ q′ e = rw (refused-other first n b q more (told-booked _ parts sold .0) b′ q′ e)
+  another-question-is-refused bundle′ q′ e = rw (refused-other first n bundle q more (told-booked _ parts sold .0) bundle′ q′ e)
 
-  pub sent-again-changes-nothing : (b′ : List ℕ) (q′ : Question) → saleWords now (n .till) (n .sequence) b′ q′ ≡ now
-  sent-again-changes-nothing = nothing-changes first n b q more (told-booked _ parts sold .0)
+  pub sent-again-changes-nothing : (bundle′ : List ℕ) (q′ : Question) → saleWords now (n .till) (n .sequence) bundle′ q′ ≡ now
+  sent-again-changes-nothing = nothing-changes first n bundle q more (told-booked _ parts sold .0)
 
 -- Only a newly booked sale and a first cancellation change the book.
-pub only-a-booked-sale-changes : (w : List ℕ) (t s : ℕ) (b : List ℕ) (q : Question)
-    → ((parts : List ℕ) → receiptTells (saleAnswer w t s b q) ≡ answers (booked ∷ 0 ∷ parts) → ⊥) → saleWords w t s b q ≡ w
-only-a-booked-sale-changes w t s b q n = not-booked-stays w t s b q (λ e. n _ (booked-told (saleAnswer w t s b q) e))
+pub only-a-booked-sale-changes : (book : List ℕ) (till sequence : ℕ) (bundle : List ℕ) (q : Question)
+    → ((parts : List ℕ) → receiptTells (saleAnswer book till sequence bundle q) ≡ answers (booked ∷ 0 ∷ parts) → ⊥) → saleWords book till sequence bundle q ≡ book
+only-a-booked-sale-changes book till sequence bundle q n = not-booked-stays book till sequence bundle q (λ e. n _ (booked-told (saleAnswer book till sequence bundle q) e))
 
-pub only-a-first-cancellation-changes : (w : List ℕ) (t s : ℕ)
-    → ((parts : List ℕ) → receiptTells (cancelAnswer w t s) ≡ answers (cancelled ∷ 1 ∷ parts) → ⊥) → cancelWords w t s ≡ w
-only-a-first-cancellation-changes w t s n = not-cancelled-stays w t s (λ e. n _ (cancelled-told (cancelAnswer w t s) e))
+pub only-a-first-cancellation-changes : (book : List ℕ) (till sequence : ℕ)
+    → ((parts : List ℕ) → receiptTells (cancelAnswer book till sequence) ≡ answers (cancelled ∷ 1 ∷ parts) → ⊥) → cancelWords book till sequence ≡ book
+only-a-first-cancellation-changes book till sequence n = not-cancelled-stays book till sequence (λ e. n _ (cancelled-told (cancelAnswer book till sequence) e))
 
 -- No second answer meets the contracts of `sale`, `cancel`, `balance` and `total`, and no second book those of `sale` and `cancel`.
-pub one-sale : (w : List ℕ) (t s : ℕ) (b : List ℕ) (q : Question) (x y : Receipt) (v z : List ℕ)
-    → x ≡ saleAnswer w t s b q → v ≡ saleWords w t s b q → y ≡ saleAnswer w t s b q → z ≡ saleWords w t s b q → (x ≡ y) × (v ≡ z)
-one-sale w t s b q x y v z e f g h = (e ∙ sym g, f ∙ sym h)
+pub one-sale : (book : List ℕ) (till sequence : ℕ) (bundle : List ℕ) (q : Question) (x y : Receipt) (v z : List ℕ)
+    → x ≡ saleAnswer book till sequence bundle q → v ≡ saleWords book till sequence bundle q → y ≡ saleAnswer book till sequence bundle q → z ≡ saleWords book till sequence bundle q → (x ≡ y) × (v ≡ z)
+one-sale book till sequence bundle q x y v z e f g h = (e ∙ sym g, f ∙ sym h)
 
-pub one-cancel : (w : List ℕ) (t s : ℕ) (x y : Receipt) (v z : List ℕ)
-    → x ≡ cancelAnswer w t s → v ≡ cancelWords w t s → y ≡ cancelAnswer w t s → z ≡ cancelWords w t s → (x ≡ y) × (v ≡ z)
-one-cancel w t s x y v z e f g h = (e ∙ sym g, f ∙ sym h)
+pub one-cancel : (book : List ℕ) (till sequence : ℕ) (x y : Receipt) (v z : List ℕ)
+    → x ≡ cancelAnswer book till sequence → v ≡ cancelWords book till sequence → y ≡ cancelAnswer book till sequence → z ≡ cancelWords book till sequence → (x ≡ y) × (v ≡ z)
+one-cancel book till sequence x y v z e f g h = (e ∙ sym g, f ∙ sym h)
 
-pub one-balance : (w : List ℕ) (railway : ℕ) (x y : Sum) → x ≡ balanceAnswer w railway → y ≡ balanceAnswer w railway → x ≡ y
-one-balance w railway x y e f = e ∙ sym f
+pub one-balance : (book : List ℕ) (railway : ℕ) (x y : Sum) → x ≡ balanceAnswer book railway → y ≡ balanceAnswer book railway → x ≡ y
+one-balance book railway x y e f = e ∙ sym f
 
-pub one-total : (w : List ℕ) (x y : Sum) → x ≡ totalAnswer w → y ≡ totalAnswer w → x ≡ y
-one-total w x y e f = e ∙ sym f
+pub one-total : (book : List ℕ) (x y : Sum) → x ≡ totalAnswer book → y ≡ totalAnswer book → x ≡ y
+one-total book x y e f = e ∙ sym f

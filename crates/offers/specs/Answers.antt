@@ -13,11 +13,11 @@ use Rattle.bundle.specs.declared.Judgement.the-variants.{Accepted, Refused}
 use Rattle.fares.specs.declared.Quote.{Quote}
 use Rattle.fares.specs.declared.Pricing.{Pricing}
 use Rattle.fares.specs.declared.Pricing.the-variants.{Priced, Refused as NoFare}
-use Rattle.book.specs.declared.Outcome.{Outcome}
-use Rattle.book.specs.declared.Outcome.the-variants.{Booked, AlreadyBooked, Cancelled, AlreadyCancelled, Refused as NoEntry}
-use Rattle.book.specs.declared.Receipt.{Receipt}
-use Rattle.book.specs.declared.Sum.{Sum}
-use Rattle.book.specs.declared.Sum.the-variants.{Amount, Refused as NoSum}
+use Rattle.sales.specs.declared.Outcome.{Outcome}
+use Rattle.sales.specs.declared.Outcome.the-variants.{Booked, AlreadyBooked, Cancelled, AlreadyCancelled, Refused as NoEntry}
+use Rattle.sales.specs.declared.Receipt.{Receipt}
+use Rattle.sales.specs.declared.Sum.{Sum}
+use Rattle.sales.specs.declared.Sum.the-variants.{Amount, Refused as NoSum}
 
 -- an answer with its values, or a refusal with its number, place and detail, and the values that go with it
 pub data Told : Type 0 where
@@ -55,7 +55,7 @@ alreadyCancelled = 4
 
 unfoldable pub outcomeTells : Outcome → List ℕ → Told
 outcomeTells Booked parts = answers (booked ∷ 0 ∷ parts)
-outcomeTells (AlreadyBooked mark) parts = answers (alreadyBooked ∷ mark ∷ parts)
+outcomeTells (AlreadyBooked status) parts = answers (alreadyBooked ∷ status ∷ parts)
 outcomeTells Cancelled parts = answers (cancelled ∷ 1 ∷ parts)
 outcomeTells AlreadyCancelled parts = answers (alreadyCancelled ∷ 1 ∷ parts)
 outcomeTells (NoEntry k p d) parts = refuses k p d (refused ∷ 0 ∷ parts)

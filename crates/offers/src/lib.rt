@@ -31,8 +31,8 @@
 ghost use mathlib.Core.Path.{_≡_};
 ghost use Rattle.bundle.specs.Verdict.{verdictOf};
 ghost use Rattle.fares.specs.Fare.{fareOf};
-ghost use Rattle.book.specs.Sales.{saleAnswer, saleWords, cancelAnswer, cancelWords};
-ghost use Rattle.book.specs.Balances.{balanceAnswer, totalAnswer};
+ghost use Rattle.sales.specs.Sales.{saleAnswer, saleWords, cancelAnswer, cancelWords};
+ghost use Rattle.sales.specs.Balances.{balanceAnswer, totalAnswer};
 
 // The verdict on a bundle: accepted with the number of its records, or the first fault by number, place and detail.
 pub use bundle::Judgement;
@@ -44,9 +44,9 @@ pub use fares::Question;
 pub use fares::Quote;
 
 // What a sale or a cancellation answers: what came of it and the sale's parts; and what a balance or the total is.
-pub use book::Outcome;
-pub use book::Receipt;
-pub use book::Sum;
+pub use sales::Outcome;
+pub use sales::Receipt;
+pub use sales::Sum;
 
 // Judges a bundle of any length.
 pub fn verdict(bundle: &[u8]) -> Judgement
@@ -73,7 +73,7 @@ pub fn sale(
     ensures { λ r. ⌜ r ≡ saleAnswer (now (book .entry)) till sequence (now (bundle .entry)) question ⌝ }
     ensures { λ r. ⌜ now (book .exit) ≡ saleWords (now (book .entry)) till sequence (now (bundle .entry)) question ⌝ }
 {
-    book::sale(book, bundle, till, sequence, question)
+    sales::sale(book, bundle, till, sequence, question)
 }
 
 // Cancels a sale; its number stays in the book.
@@ -81,19 +81,19 @@ pub fn cancel(book: &mut [u32], till: u32, sequence: u64) -> Receipt
     ensures { λ r. ⌜ r ≡ cancelAnswer (now (book .entry)) till sequence ⌝ }
     ensures { λ r. ⌜ now (book .exit) ≡ cancelWords (now (book .entry)) till sequence ⌝ }
 {
-    book::cancel(book, till, sequence)
+    sales::cancel(book, till, sequence)
 }
 
 // What a railway is owed.
 pub fn balance(book: &[u32], railway: u32) -> Sum
     ensures { λ r. ⌜ r ≡ balanceAnswer (now (book .entry)) railway ⌝ }
 {
-    book::balance(book, railway)
+    sales::balance(book, railway)
 }
 
 // What all railways are owed.
 pub fn total(book: &[u32]) -> Sum
     ensures { λ r. ⌜ r ≡ totalAnswer (now (book .entry)) ⌝ }
 {
-    book::total(book)
+    sales::total(book)
 }

@@ -48,9 +48,9 @@ fn write_refusal(number: u8, place: usize, detail: usize) {
 fn write_outcome(outcome: Outcome) {
     match outcome {
         Outcome::Booked => say(b"booked"),
-        Outcome::AlreadyBooked(mark) => {
+        Outcome::AlreadyBooked(status) => {
             say(b"already booked");
-            if mark != 0 {
+            if status != 0 {
                 say(b", cancelled");
             }
         }

@@ -1,112 +1,48 @@
--- `book::changes::append` meets its contract. The loop's invariant: the first k words of the new entry stand in their places, and the rest of the book is
--- as it was.
+-- `book::changes::append` meets its contract: the number, the question, the parts and three zeros, put one behind another, are the words of the entry.
 -- Assumes nothing.
-use Prim.Native.Nat.{_+_, _-_, _*_, _≤_}
-use mathlib.Core.Path.{_≡_, refl, _∙_, ap}
+use Prim.Native.Nat.{_+_}
+use mathlib.Core.Path.{_≡_, ap}
 use native.Mathlib.Omega.{arith}
 use lib.ListN.{length, set, length-set}
-use lib.Seq.{paste, paste-zero}
+use lib.Seq.{paste}
+use Rattle.book.specs.Words.{width, startOf, countOf, booking, wordsOf}
+use Rattle.book.specs.Changes.{added}
+use Rattle.book.proofs.EntryWords.{entry-put}
 use borrow.Author.Needs.{needs}
-use Rattle.book.specs.Words.{width, countOf, booking, wordsOf}
-use Rattle.book.specs.Sales.{added}
-use Rattle.book.proofs.BookingLaws.{written}
 use Rattle.book.proofs.changes.append.Statement.{statement}
 use Rattle.book.proofs.changes.append.Tie as tie
 
-abbrev Inv-loop : tie.InvT-loop
-Inv-loop book₀ till sequence q parts count at k₀ book k =
-    (k ≤ width) × (length book ≡ length book₀) × (book ≡ paste book₀ at (wordsOf (booking till sequence q parts)) k)
+abbrev start : tie.After-slice-known6 → tie.Start
+start c = c .before .before .before .before .before .before .before .before .before .before .before .before .before .before .before .before .before .before .before .before .before .before .before
 
-abbrev μ-loop : tie.MeasureT-loop
-μ-loop book₀ till sequence q parts count at k₀ book k = width - k
+eight : (c : tie.Start) → length (c .args .t5) ≡ 8
+eight c = search needs
 
-slice-read-count : tie.Need-slice-read-count Inv-loop μ-loop
-slice-read-count c = search needs
+-- the four puts, as one
+made : (c : tie.After-slice-known6) → let a = start c .args in
+    let d = c .before .before .put4 .last .0 in
+    (d ≡ paste (a .book .now) (startOf (countOf (a .book .now))) (wordsOf (booking (a .till) (a .sequence) (a .q) (a .t5))) width) × (length d ≡ length (a .book .now))
+made c =
+    let p₄ = c .before .before in
+    let p₃ = p₄ .before .before .before .before .before in
+    let p₂ = p₃ .before .before .before .before .before in
+    let p₁ = p₂ .before .before .before .before .before in
+    let a = start c .args in
+    entry-put (a .book .now) (startOf (countOf (a .book .now))) (a .till) (a .sequence) (a .q) (a .t5) (eight (start c)) (omega (arith, start c .pre))
+    (p₁ .before .before .before .question-words .ensures) (p₁ .put .ensures) (p₂ .put2 .ensures) (p₃ .put3 .ensures) (p₄ .put4 .ensures)
 
-cast-count : tie.Need-cast-count Inv-loop μ-loop
-cast-count c = search needs
+same-length : tie.Need-same-length
+same-length c = simp length-set (made c .1)
 
-mul-at : tie.Need-mul-at Inv-loop μ-loop
-mul-at c = search needs
-
-add-at : tie.Need-add-at Inv-loop μ-loop
-add-at c = search needs
-
-loop-holds : tie.Need-loop-holds Inv-loop μ-loop
-loop-holds c =
-    let a = c .before .before .args in
-    let w = a .book .now in
-    (omega arith, refl, paste-zero w (1 + countOf w * width) (wordsOf (booking (a .till) (a .sequence) (a .q) (a .parts))))
-
-entry-word-requires : tie.Need-entry-word-requires Inv-loop μ-loop
-entry-word-requires c κs = search needs
-
-add-book : tie.Need-add-book Inv-loop μ-loop
-add-book c = search needs
-
-mul-book : tie.Need-mul-book Inv-loop μ-loop
-mul-book c = search needs
-
-slice-write-book : tie.Need-slice-write-book Inv-loop μ-loop
-slice-write-book c = search needs
-
-add-k : tie.Need-add-k Inv-loop μ-loop
-add-k c = search needs
-
-loop-less : tie.Need-loop-less Inv-loop μ-loop
-loop-less c = search needs
-
-loop-again : tie.Need-loop-again Inv-loop μ-loop
-loop-again c =
-    let l = c .before .before in
-    let a = l .before .before .before .args in
-    let w = a .book .now in
-    let n : length (a .parts) ≡ 8 = search needs in
-    let e =
-    written (a .till) (a .sequence) (a .q) (a .parts) n w (l .loop .book) (1 + countOf w * width) (l .loop .k) (c .entry-word .result) (omega arith) (c .before .loop-test .taken) (l .loop .inv .2) (c .entry-word .ensures) in
-    (omega arith, simp length-set (l .loop .inv .1), e)
-
-add-book-2 : tie.Need-add-book-2 Inv-loop μ-loop
-add-book-2 c = search needs
-
-cast-book : tie.Need-cast-book Inv-loop μ-loop
-cast-book c = search needs
-
-slice-write-book-2 : tie.Need-slice-write-book-2 Inv-loop μ-loop
-slice-write-book-2 c = search needs
-
-same-length : tie.Need-same-length Inv-loop μ-loop
-same-length c = search needs
-
-returns : tie.Need-returns Inv-loop μ-loop
+returns : tie.Need-returns
 unfolding added
-returns c =
-    let l = c .before in
-    let a = l .before .before .before .args in
-    let w = a .book .now in
-    let e : l .loop .k ≡ width = omega arith in
-    ap (λ b. set b 0 (countOf w + 1)) (l .loop .inv .2 ∙ ap (paste w (1 + countOf w * width) (wordsOf (booking (a .till) (a .sequence) (a .q) (a .parts)))) e)
+returns c = ap (λ ws. set ws 0 (countOf (start c .args .book .now) + 1)) (made c .0)
 
 pub append-spec : {M : Type 1} → statement M
 append-spec =
     tie.close
     (tie.spec
-    Inv-loop
-    μ-loop
-    slice-read-count
-    cast-count
-    mul-at
-    add-at
-    loop-holds
-    entry-word-requires
-    add-book
-    mul-book
-    slice-write-book
-    add-k
-    loop-less
-    loop-again
-    add-book-2
-    cast-book
-    slice-write-book-2
-    same-length
-    returns)
+    (λ c. search needs) (λ c. search needs) (λ c. search needs) (λ c. search needs) (λ c κs. search needs) (λ c. search needs)
+    (λ c κs. search needs) (λ c. search needs) (λ c. search needs) (λ c κs. search needs) (λ c. search needs) (λ c. search needs)
+    (λ c κs. search needs) (λ c. search needs) (λ c. search needs) (λ c κs. search needs) (λ c. search needs) (λ c. search needs)
+    (λ c. search needs) same-length returns)

@@ -1,97 +1,16 @@
--- `book::entries::find` meets its contract. The loop's invariant: `at` is where entry i starts, and no entry before it has the number.
+-- `book::entries::find` meets its contract.
 -- Assumes nothing.
-use Prim.Native.Nat.{ℕ, _+_, _-_, _*_, _≤_}
-use mathlib.Core.Path.{_≡_, sym, _∙_}
-use mathlib.Core.Bool.{false, _&&_, and-false}
-use mathlib.Core.List.{List}
-use mathlib.Core.Logic.{⊎-elim}
-use native.Mathlib.Nat.{add-zero}
-use native.Mathlib.Omega.{arith}
-use lib.Dec.{eqb}
-use lib.ListN.{getD}
-use borrow.Author.Tests.{eq-eqb, ne-eqb}
-use Rattle.common.specs.Least.{least}
-use Rattle.common.proofs.Least.{start, more, hit}
-use Rattle.book.specs.Words.{width, entryAt}
-use Rattle.book.specs.Sound.{sameNumber}
-use Rattle.book.proofs.Blocks.{word-at}
+use mathlib.Core.Path.{sym, _∙_, ap}
+use Rattle.book.specs.Helpers.{heldBefore}
+use Rattle.book.proofs.NumbersDiffer.{held-is}
+use borrow.Author.Needs.{needs}
 use Rattle.book.proofs.entries.find.Statement.{statement}
 use Rattle.book.proofs.entries.find.Tie as tie
 
-abbrev Inv-loop : tie.InvT-loop
-Inv-loop book n till sequence i₀ at₀ i at = (i ≤ n) × (at ≡ 1 + i * width) × (least (λ j. sameNumber till sequence (entryAt book j)) i ≡ i)
-
-abbrev μ-loop : tie.MeasureT-loop
-μ-loop book n till sequence i₀ at₀ i at = n - i
-
--- the number of entry i, as the two words at its start
-tested : (w : List ℕ) (t s i at : ℕ) → at ≡ 1 + i * width → sameNumber t s (entryAt w i) ≡ (eqb (getD w at 0) t && eqb (getD w (at + 1) 0) s)
-tested w t s i at e = rw (word-at w i 0 (omega arith), word-at w i 1 (omega arith), add-zero, ← e)
-
-loop-holds : tie.Need-loop-holds Inv-loop μ-loop
-loop-holds c = (omega arith, omega arith, start _)
-
-add-if1 : tie.Need-add-if1 Inv-loop μ-loop
-add-if1 c = omega arith
-
-mul-if1 : tie.Need-mul-if1 Inv-loop μ-loop
-mul-if1 c = omega arith
-
-shared-slice-read-if1 : tie.Need-shared-slice-read-if1 Inv-loop μ-loop
-shared-slice-read-if1 c = omega arith
-
-mul-if2 : tie.Need-mul-if2 Inv-loop μ-loop
-mul-if2 c = omega arith
-
-shared-slice-read-if2 : tie.Need-shared-slice-read-if2 Inv-loop μ-loop
-shared-slice-read-if2 c = omega arith
-
-returns : tie.Need-returns Inv-loop μ-loop
+returns : tie.Need-returns
 returns c =
-    let l = c .before .before .before .before .before in
-    let a = l .before .args in
-    let t = c .before .before .before .before .loop-test .taken in
-    sym (hit _ (l .loop .i) (a .n) (l .loop .inv .2) (tested (a .book .now) (a .till) (a .sequence) (l .loop .i) (l .loop .at) (l .loop .inv .1) ∙ rw (eq-eqb _ _ (c .if2 .taken), eq-eqb _ _ (c .before .before .if1 .taken))) t)
-
-add-i : tie.Need-add-i Inv-loop μ-loop
-add-i c = omega arith
-
-add-at : tie.Need-add-at Inv-loop μ-loop
-add-at c = omega arith
-
-loop-less : tie.Need-loop-less Inv-loop μ-loop
-loop-less c = omega arith
-
-loop-again : tie.Need-loop-again Inv-loop μ-loop
-loop-again c =
-    let l = c .before .before .before in
-    let a = l .before .args in
-    let e = tested (a .book .now) (a .till) (a .sequence) (l .loop .i) (l .loop .at) (l .loop .inv .1) in
-    let f : sameNumber (a .till) (a .sequence) (entryAt (a .book .now) (l .loop .i)) ≡ false =
-    ⊎-elim (λ w. e ∙ rw (ne-eqb _ _ (w .2 .left))) (λ w. e ∙ rw (ne-eqb _ _ (w .left), and-false)) (c .if1 .came) in
-    (omega arith, omega arith, more _ (l .loop .i) (l .loop .inv .2) f)
-
-returns-2 : tie.Need-returns-2 Inv-loop μ-loop
-returns-2 c =
-    let l = c .before in
-    let e : l .loop .i ≡ l .before .args .n = omega arith in
-    sym (rw e at (l .loop .inv .2))
+    let a = c .before .before .before .args in
+    c .find-before .ensures ∙ (ap (λ n. heldBefore (a .book .now) n (a .till) (a .sequence)) (c .before .count .ensures) ∙ sym (held-is (a .book .now) (a .till) (a .sequence)))
 
 pub find-spec : {M : Type 1} → statement M
-find-spec =
-    tie.close
-    (tie.spec
-    Inv-loop
-    μ-loop
-    loop-holds
-    add-if1
-    mul-if1
-    shared-slice-read-if1
-    mul-if2
-    shared-slice-read-if2
-    returns
-    add-i
-    add-at
-    loop-less
-    loop-again
-    returns-2)
+find-spec = tie.close (tie.spec (λ c κs. search needs) (λ c κs. search needs) returns)

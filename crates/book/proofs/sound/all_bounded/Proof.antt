@@ -21,20 +21,8 @@ abbrev μ-loop : tie.MeasureT-loop
 loop-holds : tie.Need-loop-holds Inv-loop μ-loop
 loop-holds c = (omega arith, refl)
 
-mul-if1 : tie.Need-mul-if1 Inv-loop μ-loop
-mul-if1 c = omega arith
-
-shared-slice-read-if1 : tie.Need-shared-slice-read-if1 Inv-loop μ-loop
-shared-slice-read-if1 c = omega arith
-
 returns : tie.Need-returns Inv-loop μ-loop
 returns c = let l = c .before .before .before in sym (l .loop .inv .1 ∙ (every-step (λ p. leb p partBound) _ _ 0 (c .before .before .loop-test .taken) ∙ rw (lt-leb _ _ (c .if1 .taken))))
-
-add-k : tie.Need-add-k Inv-loop μ-loop
-add-k c = omega arith
-
-loop-less : tie.Need-loop-less Inv-loop μ-loop
-loop-less c = omega arith
 
 loop-again : tie.Need-loop-again Inv-loop μ-loop
 loop-again c = let l = c .before .before .before in (omega arith, l .loop .inv .1 ∙ (every-step (λ p. leb p partBound) _ _ 0 (c .before .before .loop-test .taken) ∙ rw (le-leb _ _ (c .if1 .left))))
@@ -46,13 +34,4 @@ pub all-bounded-spec : {M : Type 1} → statement M
 all-bounded-spec =
     tie.close
     (tie.spec
-    Inv-loop
-    μ-loop
-    loop-holds
-    mul-if1
-    shared-slice-read-if1
-    returns
-    add-k
-    loop-less
-    loop-again
-    returns-2)
+    Inv-loop μ-loop loop-holds (λ c. omega arith) (λ c. omega arith) returns (λ c. omega arith) (λ c. omega arith) loop-again returns-2)

@@ -13,17 +13,8 @@ use Rattle.book.proofs.sound.asked_sound.Tie as tie
 limited : (c : tie.After-in-limits) → c .in-limits .result ≡ inLimits (questionOf (c .before .before .before .args .words .now))
 limited c = c .in-limits .ensures ∙ ap inLimits (c .before .question-in .ensures)
 
-question-in-requires : tie.Need-question-in-requires
-question-in-requires c κs = search needs
-
-in-limits-requires : tie.Need-in-limits-requires
-in-limits-requires c κs = search needs
-
 returns : tie.Need-returns
 returns c = rw (fails (c .before .in-limits .result) (c .if1 .taken) (limited (c .before)))
-
-says-requires : tie.Need-says-requires
-says-requires c κs = search needs
 
 returns-2 : tie.Need-returns-2
 returns-2 c = let i = c .before .before in
@@ -31,5 +22,4 @@ returns-2 c = let i = c .before .before in
     rw (holds (i .in-limits .result) (c .before .if1 .left) (limited i)) (c .says .ensures ∙ ap (λ q. same (s .before .args .words .now) (questionWords q)) (i .before .question-in .ensures))
 
 pub asked-sound-spec : {M : Type 1} → statement M
-asked-sound-spec =
-    tie.close (tie.spec question-in-requires in-limits-requires returns says-requires returns-2)
+asked-sound-spec = tie.close (tie.spec (λ c κs. search needs) (λ c κs. search needs) returns (λ c κs. search needs) returns-2)

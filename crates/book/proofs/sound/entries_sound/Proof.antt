@@ -1,6 +1,6 @@
 -- `book::sound::entries_sound` meets its contract. The loop's invariant: the entries passed are sound, so that those left decide.
 -- Assumes nothing.
-use Prim.Native.Nat.{_+_, _*_, _≤_, _-_}
+use Prim.Native.Nat.{_≤_, _-_}
 use mathlib.Core.Path.{_≡_, refl, sym, _∙_, ap}
 use native.Mathlib.Nat.{add-sub-cancel-left}
 use native.Mathlib.Omega.{arith}
@@ -8,7 +8,7 @@ use lib.ListN.{drop, take}
 use Rattle.common.specs.Lists.{every, upTo}
 use Rattle.common.proofs.Lists.{upto-step, upto-end}
 use Rattle.common.proofs.Tests.{fails, holds}
-use Rattle.book.specs.Words.{width, entryOf, entryAt}
+use Rattle.book.specs.Words.{width, entryOf, entryAt, startOf}
 use Rattle.book.specs.Sound.{entrySound}
 use Rattle.book.proofs.sound.entries_sound.Statement.{statement}
 use Rattle.book.proofs.sound.entries_sound.Tie as tie
@@ -24,47 +24,17 @@ told : (c : tie.After-entry-sound Inv-loop μ-loop) → let l = c .before .befor
 told c =
     let l = c .before .before .before in
     let w = l .before .before .args .book .now in
-    let at = 1 + l .loop .i * width in
+    let at = startOf (l .loop .i) in
     c .entry-sound .ensures ∙ ap (λ n. entrySound (entryOf (take n (drop at w)))) (add-sub-cancel-left at width)
 
 loop-holds : tie.Need-loop-holds Inv-loop μ-loop
 loop-holds c = (omega arith, refl)
-
-mul-at : tie.Need-mul-at Inv-loop μ-loop
-mul-at c = omega arith
-
-add-at : tie.Need-add-at Inv-loop μ-loop
-add-at c = omega arith
-
-add-end : tie.Need-add-end Inv-loop μ-loop
-add-end c = omega arith
-
-mul-entry-sound : tie.Need-mul-entry-sound Inv-loop μ-loop
-mul-entry-sound c = omega arith
-
-sub-entry-sound : tie.Need-sub-entry-sound Inv-loop μ-loop
-sub-entry-sound c = omega arith
-
-part-entry-sound-start : tie.Need-part-entry-sound-start Inv-loop μ-loop
-part-entry-sound-start c = omega arith
-
-part-entry-sound-end : tie.Need-part-entry-sound-end Inv-loop μ-loop
-part-entry-sound-end c = omega arith
-
-entry-sound-requires : tie.Need-entry-sound-requires Inv-loop μ-loop
-entry-sound-requires c κs = omega arith
 
 returns : tie.Need-returns Inv-loop μ-loop
 returns c = let l = c .before .before .before .before in
     let a = l .before .before .args in
     let t = c .before .before .before .loop-test .taken in
     sym (l .loop .inv .1 ∙ (upto-step (entryAt (a .book .now)) entrySound (a .n) (l .loop .i) t ∙ rw (fails (c .before .entry-sound .result) (c .if1 .taken) (told (c .before)))))
-
-add-i : tie.Need-add-i Inv-loop μ-loop
-add-i c = omega arith
-
-loop-less : tie.Need-loop-less Inv-loop μ-loop
-loop-less c = omega arith
 
 loop-again : tie.Need-loop-again Inv-loop μ-loop
 loop-again c = let l = c .before .before .before .before in
@@ -82,19 +52,5 @@ pub entries-sound-spec : {M : Type 1} → statement M
 entries-sound-spec =
     tie.close
     (tie.spec
-    Inv-loop
-    μ-loop
-    loop-holds
-    mul-at
-    add-at
-    add-end
-    mul-entry-sound
-    sub-entry-sound
-    part-entry-sound-start
-    part-entry-sound-end
-    entry-sound-requires
-    returns
-    add-i
-    loop-less
-    loop-again
-    returns-2)
+    Inv-loop μ-loop loop-holds (λ c. omega arith) (λ c. omega arith) (λ c. omega arith) (λ c. omega arith) (λ c. omega arith)
+    (λ c. omega arith) (λ c. omega arith) (λ c κs. omega arith) returns (λ c. omega arith) (λ c. omega arith) loop-again returns-2)

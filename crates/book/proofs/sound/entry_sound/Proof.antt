@@ -1,6 +1,6 @@
 -- `book::sound::entry_sound` meets its contract.
 -- Assumes nothing.
-use Prim.Native.Nat.{_≤_}
+use Prim.Native.Nat.{_+_, _≤_}
 use mathlib.Core.Path.{_≡_, _∙_, ap}
 use mathlib.Core.Bool.{true, and-true}
 use native.Mathlib.Omega.{arith}
@@ -11,103 +11,46 @@ use borrow.Author.Tests.{le-leb, lt-leb}
 use Rattle.common.specs.Lists.{every}
 use Rattle.common.proofs.Tests.{fails, holds}
 use Rattle.fares.specs.Reductions.{partBound}
-use Rattle.book.specs.Words.{questionWidth, questionOf}
+use Rattle.book.specs.Words.{questionWidth, questionOf, countAt, askedAt, partsAt, tillAt, sequenceAt}
 use Rattle.book.specs.Sound.{isZero, numberInLimits, askedSound, entrySound}
-use Rattle.book.proofs.SoundLaws.{few-legs, count-word, unused-parts}
+use Rattle.book.proofs.EntryWords.{count-at, unused-parts}
+use Rattle.book.proofs.SoundBook.{few-legs}
 use Rattle.book.proofs.sound.entry_sound.Statement.{statement}
 use Rattle.book.proofs.sound.entry_sound.Tie as tie
 
 -- what was shown on the way
-number-in : (c : tie.Else1) → numberInLimits (getD (c .before .before .before .before .before .args .words .now) 0 0) (getD (c .before .before .before .before .before .args .words .now) 1 0) ≡ true
+number-in : (c : tie.Else1) → numberInLimits (getD (c .before .before .before .before .before .args .words .now) tillAt 0) (getD (c .before .before .before .before .before .args .words .now) sequenceAt 0) ≡ true
 number-in c = holds (c .before .is-number .result) (c .if1 .left) (c .before .is-number .ensures)
 
-asked-in : (c : tie.Else2) → askedSound (take questionWidth (drop 2 (c .before .before .before .before .before .before .before .before .args .words .now))) ≡ true
+asked-in : (c : tie.Else2) → askedSound (take questionWidth (drop askedAt (c .before .before .before .before .before .before .before .before .args .words .now))) ≡ true
 asked-in c = holds (c .before .asked-sound .result) (c .if2 .left) (c .before .asked-sound .ensures)
 
-bounded-in : (c : tie.Else3) → every (λ p. leb p partBound) (take 8 (drop 53 (c .before .before .before .before .before .before .before .before .before .before .before .args .words .now))) ≡ true
+bounded-in : (c : tie.Else3) → every (λ p. leb p partBound) (take 8 (drop partsAt (c .before .before .before .before .before .before .before .before .before .before .before .args .words .now))) ≡ true
 bounded-in c = holds (c .before .all-bounded .result) (c .if3 .left) (c .before .all-bounded .ensures)
 
-few : (c : tie.Else2) → getD (c .before .before .before .before .before .before .before .before .args .words .now) 8 0 ≤ 8
-few c = rw (count-word (c .before .before .before .before .before .before .before .before .args .words .now)) at (few-legs (take questionWidth (drop 2 (c .before .before .before .before .before .before .before .before .args .words .now))) (asked-in c))
+few : (c : tie.Else2) → getD (c .before .before .before .before .before .before .before .before .args .words .now) (askedAt + countAt) 0 ≤ 8
+few c = rw (count-at (c .before .before .before .before .before .before .before .before .args .words .now)) at (few-legs (take questionWidth (drop askedAt (c .before .before .before .before .before .before .before .before .args .words .now))) (asked-in c))
 
-unused : (c : tie.After-all-zero) → let w = c .before .before .before .before .before .before .before .before .before .before .before .before .before .before .args .words .now in c .all-zero .result ≡ every isZero (drop (questionOf (take questionWidth (drop 2 w)) .count) (take 8 (drop 53 w)))
-unused c = c .all-zero .ensures ∙ ap (every isZero) (unused-parts (c .before .before .before .before .before .before .before .before .before .before .before .before .before .before .args .words .now) (few (c .before .before .before .before .before .before)))
+unused : (c : tie.After-all-zero) → let w = c .before .before .before .before .before .before .before .before .before .before .before .before .before .before .args .words .now in c .all-zero .result ≡ every isZero (drop (questionOf (take questionWidth (drop askedAt w)) .count) (take 8 (drop partsAt w)))
+unused c =
+    let w = c .before .before .before .before .before .before .before .before .before .before .before .before .before .before .args .words .now in
+    c .all-zero .ensures ∙ rw (count-at w) (ap (every isZero) (unused-parts w (getD w (askedAt + countAt) 0) (few (c .before .before .before .before .before .before))))
 
-zero-in : (c : tie.Else4) → let w = c .before .before .before .before .before .before .before .before .before .before .before .before .before .before .before .args .words .now in every isZero (drop (questionOf (take questionWidth (drop 2 w)) .count) (take 8 (drop 53 w))) ≡ true
+zero-in : (c : tie.Else4) → let w = c .before .before .before .before .before .before .before .before .before .before .before .before .before .before .before .args .words .now in every isZero (drop (questionOf (take questionWidth (drop askedAt w)) .count) (take 8 (drop partsAt w))) ≡ true
 zero-in c = holds (c .before .all-zero .result) (c .if4 .left) (unused (c .before))
-
-shared-slice-read-is-number : tie.Need-shared-slice-read-is-number
-shared-slice-read-is-number c = search needs
-
-shared-slice-read-is-number-2 : tie.Need-shared-slice-read-is-number-2
-shared-slice-read-is-number-2 c = search needs
-
-cast-is-number : tie.Need-cast-is-number
-cast-is-number c = omega (arith, c .shared-slice-known3 .given 1)
-
-is-number-requires : tie.Need-is-number-requires
-is-number-requires c κs = search needs
 
 returns : tie.Need-returns
 unfolding entrySound every
 returns c = rw (fails (c .before .is-number .result) (c .if1 .taken) (c .before .is-number .ensures))
 
-sub-asked-sound : tie.Need-sub-asked-sound
-sub-asked-sound c = search needs
-
-part-asked-sound-start : tie.Need-part-asked-sound-start
-part-asked-sound-start c = search needs
-
-part-asked-sound-end : tie.Need-part-asked-sound-end
-part-asked-sound-end c = search needs
-
-asked-sound-requires : tie.Need-asked-sound-requires
-asked-sound-requires c κs = search needs
-
 returns-2 : tie.Need-returns-2
 unfolding entrySound every
 returns-2 c = rw (number-in (c .before .before .before), fails (c .before .asked-sound .result) (c .if2 .taken) (c .before .asked-sound .ensures))
-
-sub-all-bounded : tie.Need-sub-all-bounded
-sub-all-bounded c = search needs
-
-part-all-bounded-start : tie.Need-part-all-bounded-start
-part-all-bounded-start c = search needs
-
-part-all-bounded-end : tie.Need-part-all-bounded-end
-part-all-bounded-end c = search needs
-
-all-bounded-requires : tie.Need-all-bounded-requires
-all-bounded-requires c κs = search needs
 
 returns-3 : tie.Need-returns-3
 unfolding entrySound every
 returns-3 c = let a = c .before .before .before in
     rw (number-in (a .before .before .before), asked-in a, fails (c .before .all-bounded .result) (c .if3 .taken) (c .before .all-bounded .ensures))
-
-shared-slice-read-first : tie.Need-shared-slice-read-first
-shared-slice-read-first c = search needs
-
-cast-first : tie.Need-cast-first
-cast-first c = omega (arith, few (c .before .before .before .before))
-
-add-first : tie.Need-add-first
-add-first c = omega (arith, few (c .before .before .before .before))
-
-mul-all-zero : tie.Need-mul-all-zero
-mul-all-zero c = omega (arith, few (c .before .before .before .before))
-
-sub-all-zero : tie.Need-sub-all-zero
-sub-all-zero c = omega (arith, few (c .before .before .before .before))
-
-part-all-zero-start : tie.Need-part-all-zero-start
-part-all-zero-start c = omega (arith, few (c .before .before .before .before))
-
-part-all-zero-end : tie.Need-part-all-zero-end
-part-all-zero-end c = search needs
-
-all-zero-requires : tie.Need-all-zero-requires
-all-zero-requires c κs = search needs
 
 returns-4 : tie.Need-returns-4
 unfolding entrySound every
@@ -115,27 +58,12 @@ returns-4 c = let b = c .before .before .before .before in
     let a = b .before .before .before in
     rw (number-in (a .before .before .before), asked-in a, bounded-in b, fails (c .before .all-zero .result) (c .if4 .taken) (unused (c .before)))
 
-shared-slice-read-if5 : tie.Need-shared-slice-read-if5
-shared-slice-read-if5 c = search needs
-
 returns-5 : tie.Need-returns-5
 unfolding entrySound every
 returns-5 c = let z = c .before .before in
     let b = z .before .before .before .before in
     let a = b .before .before .before in
     rw (number-in (a .before .before .before), asked-in a, bounded-in b, zero-in z, lt-leb _ 1 (c .if5 .taken))
-
-sub-all-zero-2 : tie.Need-sub-all-zero-2
-sub-all-zero-2 c = search needs
-
-part-all-zero-start-2 : tie.Need-part-all-zero-start-2
-part-all-zero-start-2 c = search needs
-
-part-all-zero-end-2 : tie.Need-part-all-zero-end-2
-part-all-zero-end-2 c = search needs
-
-all-zero-requires-2 : tie.Need-all-zero-requires-2
-all-zero-requires-2 c κs = search needs
 
 returns-6 : tie.Need-returns-6
 unfolding entrySound every
@@ -148,34 +76,10 @@ pub entry-sound-spec : {M : Type 1} → statement M
 entry-sound-spec =
     tie.close
     (tie.spec
-    shared-slice-read-is-number
-    shared-slice-read-is-number-2
-    cast-is-number
-    is-number-requires
-    returns
-    sub-asked-sound
-    part-asked-sound-start
-    part-asked-sound-end
-    asked-sound-requires
-    returns-2
-    sub-all-bounded
-    part-all-bounded-start
-    part-all-bounded-end
-    all-bounded-requires
-    returns-3
-    shared-slice-read-first
-    cast-first
-    add-first
-    mul-all-zero
-    sub-all-zero
-    part-all-zero-start
-    part-all-zero-end
-    all-zero-requires
-    returns-4
-    shared-slice-read-if5
-    returns-5
-    sub-all-zero-2
-    part-all-zero-start-2
-    part-all-zero-end-2
-    all-zero-requires-2
-    returns-6)
+    (λ c. search needs) (λ c. search needs) (λ c. omega (arith, c .shared-slice-known3 .given sequenceAt)) (λ c κs. search needs) returns
+    (λ c. search needs) (λ c. search needs) (λ c. search needs) (λ c κs. search needs) returns-2 (λ c. search needs) (λ c. search needs)
+    (λ c. search needs) (λ c κs. search needs) returns-3 (λ c. search needs) (λ c. omega (arith, few (c .before .before .before .before)))
+    (λ c. omega (arith, few (c .before .before .before .before))) (λ c. omega (arith, few (c .before .before .before .before)))
+    (λ c. omega (arith, few (c .before .before .before .before))) (λ c. omega (arith, few (c .before .before .before .before)))
+    (λ c. search needs) (λ c κs. search needs) returns-4 (λ c. search needs) returns-5 (λ c. search needs) (λ c. search needs)
+    (λ c. search needs) (λ c κs. search needs) returns-6)

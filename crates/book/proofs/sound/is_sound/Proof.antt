@@ -1,6 +1,6 @@
 -- `book::sound::is_sound` meets its contract: the tests in the order of the definition.
 -- Assumes nothing.
-use Prim.Native.Nat.{_+_, _-_, _*_}
+use Prim.Native.Nat.{_-_}
 use mathlib.Core.Path.{_≡_, _∙_, ap}
 use mathlib.Core.Bool.{true, and-true}
 use native.Mathlib.Omega.{arith}
@@ -11,7 +11,7 @@ use borrow.Author.Tests.{eq-eqb, ne-eqb, le-leb, lt-leb}
 use Rattle.common.specs.Lists.{every, upTo}
 use Rattle.common.proofs.Parts.{rest-taken}
 use Rattle.common.proofs.Tests.{fails, holds}
-use Rattle.book.specs.Words.{capacity, width, bookLength, countOf, entryAt, entries}
+use Rattle.book.specs.Words.{capacity, bookLength, countOf, entryAt, entries, startOf}
 use Rattle.book.specs.Sound.{isZero, entrySound, numbersDiffer, soundWords}
 use Rattle.book.proofs.sound.is_sound.Statement.{statement}
 use Rattle.book.proofs.sound.is_sound.Tie as tie
@@ -33,51 +33,18 @@ returns : tie.Need-returns
 unfolding soundWords every entries
 returns c = rw (ne-eqb _ _ (c .if1 .taken))
 
-shared-slice-read-count : tie.Need-shared-slice-read-count
-shared-slice-read-count c = search needs
-
-cast-count : tie.Need-cast-count
-cast-count c = omega (arith, c .shared-slice-known2 .given 0)
-
 returns-2 : tie.Need-returns-2
 unfolding soundWords every entries
 returns-2 c = rw (long (c .before .before), lt-leb _ _ (c .if2 .taken))
-
-entries-sound-requires : tie.Need-entries-sound-requires
-entries-sound-requires c κs = search needs
 
 returns-3 : tie.Need-returns-3
 unfolding soundWords every entries
 returns-3 c = rw (long (c .before .before .before .before), small (c .before .before), fails (c .before .entries-sound .result) (c .if3 .taken) (c .before .entries-sound .ensures))
 
-numbers-differ-requires : tie.Need-numbers-differ-requires
-numbers-differ-requires c κs = search needs
-
 returns-4 : tie.Need-returns-4
 unfolding soundWords every entries
 returns-4 c = let s = c .before .before in
     rw (long (s .before .before .before .before), small (s .before .before), each s, fails (c .before .numbers-differ .result) (c .if4 .taken) (c .before .numbers-differ .ensures))
-
-mul-unused : tie.Need-mul-unused
-mul-unused c = search needs
-
-add-unused : tie.Need-add-unused
-add-unused c = search needs
-
-mul-all-zero : tie.Need-mul-all-zero
-mul-all-zero c = search needs
-
-sub-all-zero : tie.Need-sub-all-zero
-sub-all-zero c = search needs
-
-part-all-zero-start : tie.Need-part-all-zero-start
-part-all-zero-start c = search needs
-
-part-all-zero-end : tie.Need-part-all-zero-end
-part-all-zero-end c = search needs
-
-all-zero-requires : tie.Need-all-zero-requires
-all-zero-requires c κs = search needs
 
 returns-5 : tie.Need-returns-5
 unfolding soundWords every entries
@@ -86,26 +53,13 @@ returns-5 c = let d = c .before .before in
     let l = s .before .before .before .before in
     let w = l .before .before .args .book .now in
     let n = l .if1 .left in
-    let at = 1 + countOf w * width in
+    let at = startOf (countOf w) in
     rw (long l, small (s .before .before), each s, differ d, and-true) (c .all-zero .ensures ∙ ap (every isZero) (rest-taken w at (bookLength - at) (omega arith)))
 
 pub is-sound-spec : {M : Type 1} → statement M
 is-sound-spec =
     tie.close
     (tie.spec
-    returns
-    shared-slice-read-count
-    cast-count
-    returns-2
-    entries-sound-requires
-    returns-3
-    numbers-differ-requires
-    returns-4
-    mul-unused
-    add-unused
-    mul-all-zero
-    sub-all-zero
-    part-all-zero-start
-    part-all-zero-end
-    all-zero-requires
-    returns-5)
+    returns (λ c. search needs) (λ c. omega (arith, c .shared-slice-known2 .given 0)) returns-2 (λ c κs. search needs) returns-3
+    (λ c κs. search needs) returns-4 (λ c. search needs) (λ c. search needs) (λ c. search needs) (λ c. search needs) (λ c. search needs)
+    (λ c. search needs) (λ c κs. search needs) returns-5)

@@ -8,8 +8,9 @@ use borrow.Author.Needs.{needs}
 use borrow.Author.Tests.{eq-eqb, ne-eqb}
 use Rattle.common.specs.Lists.{sum, upTo}
 use Rattle.common.proofs.Sums.{sum-up}
-use Rattle.book.specs.Words.{entryOf}
-use Rattle.book.proofs.SumLaws.{most, countedPart, leg-counts, leg-counts-not, counted-is}
+use Rattle.book.specs.Words.{entryOf, partsAt}
+use Rattle.book.proofs.SoundBook.{most}
+use Rattle.book.proofs.BalanceSums.{countedPart, leg-counts, leg-counts-not, counted-is}
 use Rattle.book.proofs.sums.entry_owed.Statement.{statement}
 use Rattle.book.proofs.sums.entry_owed.Tie as tie
 
@@ -20,9 +21,6 @@ Inv-loop words railway total₀ j₀ total j =
 abbrev μ-loop : tie.MeasureT-loop
 μ-loop words railway total₀ j₀ total j = 8 - j
 
-shared-slice-read-if1 : tie.Need-shared-slice-read-if1 Inv-loop μ-loop
-shared-slice-read-if1 c = omega arith
-
 returns : tie.Need-returns Inv-loop μ-loop
 returns c = sym (rw (ne-eqb _ _ (c .if1 .taken)))
 
@@ -30,48 +28,18 @@ loop-holds : tie.Need-loop-holds Inv-loop μ-loop
 unfolding sum upTo
 loop-holds c = (omega arith, omega arith, refl)
 
-mul-counts : tie.Need-mul-counts Inv-loop μ-loop
-mul-counts c = omega arith
-
-add-counts : tie.Need-add-counts Inv-loop μ-loop
-add-counts c = omega arith
-
-mul-counts-2 : tie.Need-mul-counts-2 Inv-loop μ-loop
-mul-counts-2 c = omega arith
-
-shared-slice-read-counts : tie.Need-shared-slice-read-counts Inv-loop μ-loop
-shared-slice-read-counts c = omega arith
-
-counts-requires : tie.Need-counts-requires Inv-loop μ-loop
-counts-requires c κs = search needs
-
-add-sum : tie.Need-add-sum Inv-loop μ-loop
-add-sum c = omega arith
-
-mul-sum : tie.Need-mul-sum Inv-loop μ-loop
-mul-sum c = omega arith
-
-shared-slice-read-sum : tie.Need-shared-slice-read-sum Inv-loop μ-loop
-shared-slice-read-sum c = omega arith
-
 cast-sum : tie.Need-cast-sum Inv-loop μ-loop
-cast-sum c = omega (arith, c .shared-slice-known4 .given (53 + c .before .before .before .before .before .loop .j))
+cast-sum c = omega (arith, c .shared-slice-known4 .given (partsAt + c .before .before .before .before .before .loop .j))
 
 add-sum-2 : tie.Need-add-sum-2 Inv-loop μ-loop
-add-sum-2 c = omega (arith, c .shared-slice-known4 .given (53 + c .before .before .before .before .before .loop .j))
-
-add-j : tie.Need-add-j Inv-loop μ-loop
-add-j c = omega arith
-
-loop-less : tie.Need-loop-less Inv-loop μ-loop
-loop-less c = omega arith
+add-sum-2 c = omega (arith, c .shared-slice-known4 .given (partsAt + c .before .before .before .before .before .loop .j))
 
 loop-again : tie.Need-loop-again Inv-loop μ-loop
 loop-again c =
     let l = c .before .before .before .before in
     let a = l .before .before .before .before .args in
     let s = sum-up (countedPart (a .railway) (entryOf (a .words .now) .asked) (entryOf (a .words .now) .parts)) (l .loop .j) in
-    let n = c .before .before .shared-slice-known3 .given (53 + l .loop .j) in
+    let n = c .before .before .shared-slice-known3 .given (partsAt + l .loop .j) in
     let t = c .before .before .before .loop-test .taken in
     let e = c .before .counts .ensures in
     ⊎-elim
@@ -93,22 +61,6 @@ pub entry-owed-spec : {M : Type 1} → statement M
 entry-owed-spec =
     tie.close
     (tie.spec
-    Inv-loop
-    μ-loop
-    shared-slice-read-if1
-    returns
-    loop-holds
-    mul-counts
-    add-counts
-    mul-counts-2
-    shared-slice-read-counts
-    counts-requires
-    add-sum
-    mul-sum
-    shared-slice-read-sum
-    cast-sum
-    add-sum-2
-    add-j
-    loop-less
-    loop-again
-    returns-2)
+    Inv-loop μ-loop (λ c. omega arith) returns loop-holds (λ c. omega arith) (λ c. omega arith) (λ c. omega arith) (λ c. omega arith)
+    (λ c κs. search needs) (λ c. omega arith) (λ c. omega arith) (λ c. omega arith) cast-sum add-sum-2 (λ c. omega arith) (λ c. omega arith)
+    loop-again returns-2)

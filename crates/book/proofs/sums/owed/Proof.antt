@@ -1,13 +1,13 @@
 -- `book::sums::owed` meets its contract. The loop's invariant: the sum is the balance of the entries before i, each of them small.
 -- Assumes nothing.
 use Prim.Native.Nat.{ℕ, _+_, _-_, _≤_}
-use mathlib.Core.Path.{_≡_}
 use native.Mathlib.Omega.{arith}
-use lib.ListN.{length, getD}
+use lib.ListN.{getD}
 use borrow.Author.Needs.{needs}
-use Rattle.book.specs.Words.{bookLength, capacity, countOf}
-use Rattle.book.specs.Balances.{counted}
-use Rattle.book.proofs.SumLaws.{most, counted-small, sound-length, sound-count, block-length, Summed, sum-start, sum-turn, sum-end}
+use Rattle.book.specs.Words.{capacity, countOf}
+use Rattle.book.specs.Helpers.{counted}
+use Rattle.book.proofs.SoundBook.{most, IsSound, is-sound}
+use Rattle.book.proofs.BalanceSums.{counted-small, Summed, sum-start, sum-turn, sum-end}
 use Rattle.book.proofs.sums.owed.Statement.{statement}
 use Rattle.book.proofs.sums.owed.Tie as tie
 
@@ -17,12 +17,12 @@ Inv-loop book railway count total₀ i₀ total i = (i ≤ count) × Summed (cou
 abbrev μ-loop : tie.MeasureT-loop
 μ-loop book railway count total₀ i₀ total i = count - i
 
-long : (c : tie.Start Inv-loop μ-loop) → length (c .args .book .now) ≡ bookLength
-long c = sound-length (c .args .book .now) (c .pre)
+sound : (c : tie.Start Inv-loop μ-loop) → IsSound (c .args .book .now)
+sound c = is-sound (c .args .book .now) (c .pre)
 
 -- at the loop: few entries, and each word of the book fits 32 bits
 few : (l : tie.At-loop Inv-loop μ-loop) → countOf (l .before .before .before .args .book .now) ≤ capacity
-few l = sound-count (l .before .before .before .args .book .now) (l .before .before .before .pre)
+few l = sound (l .before .before .before) .few
 
 small : (l : tie.At-loop Inv-loop μ-loop) (k : ℕ) → getD (l .before .before .before .args .book .now) k 0 ≤ most
 small l k = omega (arith, l .before .before .shared-slice-known .given k)
@@ -35,52 +35,19 @@ turned c =
     let w = a .book .now in
     sum-turn (counted (a .railway)) w (counted-small w (small l) (a .railway)) (l .loop .i) (l .loop .sum) (c .entry-owed .result) (l .loop .inv .1) (c .entry-owed .ensures)
 
-shared-slice-read-count : tie.Need-shared-slice-read-count Inv-loop μ-loop
-shared-slice-read-count c = omega (arith, long (c .before .before))
-
-cast-count : tie.Need-cast-count Inv-loop μ-loop
-cast-count c = omega (arith, c .before .shared-slice-known .given 0)
-
 loop-holds : tie.Need-loop-holds Inv-loop μ-loop
 loop-holds c = (omega arith, sum-start (counted (c .before .before .args .railway)) (c .before .before .args .book .now))
-
-mul-at : tie.Need-mul-at Inv-loop μ-loop
-mul-at c = omega (arith, few (c .before))
-
-add-at : tie.Need-add-at Inv-loop μ-loop
-add-at c = omega (arith, few (c .before))
-
-add-end : tie.Need-add-end Inv-loop μ-loop
-add-end c = omega (arith, few (c .before))
-
-mul-entry-owed : tie.Need-mul-entry-owed Inv-loop μ-loop
-mul-entry-owed c = omega (arith, few (c .before))
-
-sub-entry-owed : tie.Need-sub-entry-owed Inv-loop μ-loop
-sub-entry-owed c = omega arith
-
-part-entry-owed-start : tie.Need-part-entry-owed-start Inv-loop μ-loop
-part-entry-owed-start c = search needs
 
 part-entry-owed-end : tie.Need-part-entry-owed-end Inv-loop μ-loop
 part-entry-owed-end c =
     let n = few (c .before) in
-    let m = long (c .before .before .before .before) in
+    let m = sound (c .before .before .before .before) .long in
     search needs
 
 entry-owed-requires : tie.Need-entry-owed-requires Inv-loop μ-loop
 entry-owed-requires c κs =
     let l = c .before .before in
-    block-length (l .before .before .before .args .book .now) (l .loop .i) (omega (arith, few l, long (l .before .before .before)))
-
-add-sum : tie.Need-add-sum Inv-loop μ-loop
-add-sum c = omega (arith, few (c .before .before .before), turned c .0)
-
-add-i : tie.Need-add-i Inv-loop μ-loop
-add-i c = omega (arith, few (c .before .before .before))
-
-loop-less : tie.Need-loop-less Inv-loop μ-loop
-loop-less c = omega arith
+    omega (arith, few l, sound (l .before .before .before) .long)
 
 loop-again : tie.Need-loop-again Inv-loop μ-loop
 loop-again c = (omega arith, turned c)
@@ -95,21 +62,8 @@ pub owed-spec : {M : Type 1} → statement M
 owed-spec =
     tie.close
     (tie.spec
-    Inv-loop
-    μ-loop
-    shared-slice-read-count
-    cast-count
-    loop-holds
-    mul-at
-    add-at
-    add-end
-    mul-entry-owed
-    sub-entry-owed
-    part-entry-owed-start
-    part-entry-owed-end
-    entry-owed-requires
-    add-sum
-    add-i
-    loop-less
-    loop-again
-    returns)
+    Inv-loop μ-loop (λ c. omega (arith, sound (c .before .before) .long)) (λ c. omega (arith, c .before .shared-slice-known .given 0)) loop-holds
+    (λ c. omega (arith, few (c .before))) (λ c. omega (arith, few (c .before))) (λ c. omega (arith, few (c .before)))
+    (λ c. omega (arith, few (c .before))) (λ c. omega arith) (λ c. search needs) part-entry-owed-end entry-owed-requires
+    (λ c. omega (arith, few (c .before .before .before), turned c .0)) (λ c. omega (arith, few (c .before .before .before)))
+    (λ c. omega arith) loop-again returns)

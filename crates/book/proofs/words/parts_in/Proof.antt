@@ -19,27 +19,6 @@ abbrev μ-loop : tie.MeasureT-loop
 loop-holds : tie.Need-loop-holds Inv-loop μ-loop
 loop-holds c = (omega arith, search needs, below-none _)
 
-add-parts : tie.Need-add-parts Inv-loop μ-loop
-add-parts c = omega arith
-
-mul-parts : tie.Need-mul-parts Inv-loop μ-loop
-mul-parts c = omega arith
-
-shared-slice-read-parts : tie.Need-shared-slice-read-parts Inv-loop μ-loop
-shared-slice-read-parts c = omega arith
-
-mul-parts-2 : tie.Need-mul-parts-2 Inv-loop μ-loop
-mul-parts-2 c = omega arith
-
-array-write-parts : tie.Need-array-write-parts Inv-loop μ-loop
-array-write-parts c = omega arith
-
-add-j : tie.Need-add-j Inv-loop μ-loop
-add-j c = omega arith
-
-loop-less : tie.Need-loop-less Inv-loop μ-loop
-loop-less c = omega arith
-
 loop-again : tie.Need-loop-again Inv-loop μ-loop
 loop-again c = let l = c .before .before in
     let a = l .before .args in
@@ -58,15 +37,5 @@ pub parts-in-spec : {M : Type 1} → statement M
 parts-in-spec =
     tie.close
     (tie.spec
-    Inv-loop
-    μ-loop
-    loop-holds
-    add-parts
-    mul-parts
-    shared-slice-read-parts
-    mul-parts-2
-    array-write-parts
-    add-j
-    loop-less
-    loop-again
-    returns)
+    Inv-loop μ-loop loop-holds (λ c. omega arith) (λ c. omega arith) (λ c. omega arith) (λ c. omega arith) (λ c. omega arith)
+    (λ c. omega arith) (λ c. omega arith) loop-again returns)

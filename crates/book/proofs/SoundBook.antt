@@ -1,0 +1,84 @@
+-- What a sound book and a sound entry have, test by test.
+-- Assumes nothing.
+use Prim.Native.Nat.{ℕ, _≤_, _<_}
+use mathlib.Core.Path.{_≡_}
+use mathlib.Core.Bool.{true}
+use mathlib.Core.List.{List}
+use native.Mathlib.Omega.{arith}
+use lib.Dec.{leb}
+use lib.ListN.{length, drop}
+use borrow.Author.Tests.{eqb-true, leb-true, eq-eqb, le-leb}
+use Rattle.common.specs.Lists.{every, same}
+use Rattle.common.proofs.Tests.{both-true}
+use Rattle.common.proofs.Lists.{every-at, upto-length, upto-at}
+use Rattle.fares.specs.Question.{between, inLimits}
+use Rattle.fares.specs.Reductions.{partBound}
+use Rattle.fares.proofs.FareLaws.{asked as asked-of}
+use Rattle.book.specs.Words.{Entry, noEntry, capacity, bookLength, startOf, countOf, entries, entryAt, questionOf, questionWords}
+use Rattle.book.specs.Sound.{isZero, numberInLimits, askedSound, entrySound, numbersDiffer, soundWords}
+use lib.ListN.{getD}
+
+pub record IsSound (w : List ℕ) : Type 0 where
+  pub long : length w ≡ bookLength
+  pub few : countOf w ≤ capacity
+  pub good : every entrySound (entries w) ≡ true
+  pub differ : numbersDiffer (entries w) ≡ true
+  pub clear : every isZero (drop (startOf (countOf w)) w) ≡ true
+
+pub is-sound : (w : List ℕ) → soundWords w ≡ true → IsSound w
+unfolding soundWords
+is-sound w e =
+    record {
+      long = eqb-true (length w) bookLength (every-at (λ b. b) _ e 0 true (omega arith));
+      few = leb-true (countOf w) capacity (every-at (λ b. b) _ e 1 true (omega arith));
+      good = every-at (λ b. b) _ e 2 true (omega arith);
+      differ = every-at (λ b. b) _ e 3 true (omega arith);
+      clear = every-at (λ b. b) _ e 4 true (omega arith);
+    }
+
+pub sound-is : (w : List ℕ) → IsSound w → soundWords w ≡ true
+unfolding soundWords every
+sound-is w s = rw (eq-eqb (length w) bookLength (s .long), le-leb (countOf w) capacity (s .few), s .good, s .differ, s .clear)
+
+pub record SoundEntry (e : Entry) : Type 0 where
+  pub number : numberInLimits (e .till) (e .sequence) ≡ true
+  pub asked-well : askedSound (e .asked) ≡ true
+  pub bounded : every (λ p. leb p partBound) (e .parts) ≡ true
+  pub unused : every isZero (drop (questionOf (e .asked) .count) (e .parts)) ≡ true
+  pub live-or-not : leb (e .status) 1 ≡ true
+  pub spared : every isZero (e .spare) ≡ true
+
+pub sound-entry : (e : Entry) → entrySound e ≡ true → SoundEntry e
+unfolding entrySound
+sound-entry e g =
+    record {
+      number = every-at (λ b. b) _ g 0 true (omega arith);
+      asked-well = every-at (λ b. b) _ g 1 true (omega arith);
+      bounded = every-at (λ b. b) _ g 2 true (omega arith);
+      unused = every-at (λ b. b) _ g 3 true (omega arith);
+      live-or-not = every-at (λ b. b) _ g 4 true (omega arith);
+      spared = every-at (λ b. b) _ g 5 true (omega arith);
+    }
+
+-- the question of a sound entry, and its leg count
+pub asked-limits : (ws : List ℕ) → askedSound ws ≡ true → inLimits (questionOf ws) ≡ true
+asked-limits ws e = both-true (inLimits (questionOf ws)) (same ws (questionWords (questionOf ws))) e .0
+
+pub few-legs : (ws : List ℕ) → askedSound ws ≡ true → questionOf ws .count ≤ 8
+few-legs ws e = asked-of (questionOf ws) (asked-limits ws e) .few
+
+-- the largest word; a sequence within its limits is one word
+abbrev pub most : ℕ
+most = 4294967295
+
+pub fits-word : (t s : ℕ) → numberInLimits t s ≡ true → s ≤ most
+fits-word t s n = leb-true s most (both-true (leb 1 s) (leb s most) (both-true (between 1 65535 t) (between 1 most s) n .1) .1)
+
+-- the entries in use, by their number
+pub entry-is : (w : List ℕ) (i : ℕ) → i < countOf w → getD (entries w) i noEntry ≡ entryAt w i
+unfolding entries
+entry-is w i l = upto-at (entryAt w) (countOf w) i noEntry l
+
+pub entries-length : (w : List ℕ) → length (entries w) ≡ countOf w
+unfolding entries
+entries-length w = upto-length (entryAt w) (countOf w)

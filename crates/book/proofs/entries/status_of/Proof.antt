@@ -1,0 +1,15 @@
+-- `book::entries::status_of` meets its contract.
+-- Assumes nothing.
+use mathlib.Core.Path.{sym}
+use native.Mathlib.Omega.{arith}
+use Rattle.book.specs.Words.{statusAt}
+use Rattle.book.proofs.EntryWords.{word-at}
+use borrow.Author.Needs.{needs}
+use Rattle.book.proofs.entries.status_of.Statement.{statement}
+use Rattle.book.proofs.entries.status_of.Tie as tie
+
+returns : tie.Need-returns
+returns c = let a = c .before .args in sym (word-at (a .book .now) (a .place) statusAt (omega arith))
+
+pub status-of-spec : {M : Type 1} → statement M
+status-of-spec = tie.close (tie.spec (λ c. search needs) (λ c. search needs) (λ c. search needs) (λ c. search needs) (λ c. search needs) returns)

@@ -1,0 +1,4 @@
+pub mod AnswersByCase
+pub mod SaleAndCancel
+pub mod BalanceIsOwed
+pub mod SentAgain

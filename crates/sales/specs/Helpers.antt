@@ -1,0 +1,21 @@
+-- Short names that contracts of inner functions and proofs use. Nothing here has to be believed: no contract of the engine's six calls and no promise reaches it.
+-- Assumes nothing.
+use Prim.Native.Nat.{ℕ}
+use mathlib.Core.Bool.{cond}
+use mathlib.Core.List.{List}
+use Rattle.common.specs.Lists.{same}
+use Rattle.common.specs.Checks.{firstFault}
+use Rattle.bundle.specs.Records.{recordsOf}
+use Rattle.fares.specs.Fare.{partsOf, fareChecks}
+use Rattle.fares.specs.declared.Question.{Question}
+use Rattle.book.specs.Words.{Entry, questionWords}
+use Rattle.sales.specs.Sales.{noReceipt, receipt, unlessFault}
+use Rattle.sales.specs.declared.Outcome.the-variants.{Booked, AlreadyBooked}
+use Rattle.sales.specs.declared.Receipt.{Receipt}
+
+-- THE ANSWER on a number that is in the book, and on a new one, in a book that is sound
+unfoldable pub againAnswer : Entry → ℕ → Question → Receipt
+againAnswer e i q = cond (same (e .asked) (questionWords q)) (receipt (AlreadyBooked (e .status)) (e .parts)) (noReceipt 23 i 0)
+
+unfoldable pub firstAnswer : List ℕ → Question → Receipt
+firstAnswer bundle q = unlessFault (firstFault (fareChecks bundle q)) (receipt Booked (partsOf (recordsOf bundle) q))

@@ -1,0 +1,4 @@
+pub mod Sales
+pub mod Balances
+pub mod History
+pub mod Helpers

@@ -1,0 +1,86 @@
+-- What a sale and a cancel answer, and what they leave in the book (document 01, 'The sales book', numbers 21 to 25).
+-- Assumes nothing.
+use Prim.Native.Nat.{ℕ}
+use mathlib.Core.Bool.{Bool, true, false, cond, not, _&&_}
+use mathlib.Core.List.{List, [], _∷_}
+use lib.Dec.{eqb, leb, ltb}
+use lib.ListN.{length, getD, replicate}
+use Rattle.common.specs.Lists.{same}
+use Rattle.common.specs.Checks.{Finding, clean, fault, Check, check, firstFault}
+use Rattle.bundle.specs.Records.{recordsOf}
+use Rattle.fares.specs.Fare.{partsOf, fareChecks}
+use Rattle.fares.specs.declared.Question.{Question}
+use Rattle.book.specs.Words.{Entry, noEntry, capacity, entries, questionWords, booking}
+use Rattle.book.specs.Changes.{added, cancelledAt}
+use Rattle.book.specs.Sound.{numberInLimits, heldAt, soundWords}
+use Rattle.sales.specs.declared.Outcome.{Outcome}
+use Rattle.sales.specs.declared.Outcome.the-variants.{Booked, AlreadyBooked, Cancelled, AlreadyCancelled, Refused}
+use Rattle.sales.specs.declared.Receipt.{Receipt}
+
+-- "Every refusal answers with all amounts zero"
+abbrev pub noReceipt : ℕ → ℕ → ℕ → Receipt
+noReceipt k p d = record { outcome = Refused k p d; parts = replicate 8 0 }
+
+abbrev pub receipt : Outcome → List ℕ → Receipt
+receipt o parts = record { outcome = o; parts = parts }
+
+-- refused by what was found, or answered
+abbrev pub unlessFault : Finding → Receipt → Receipt
+unlessFault clean r = r
+unlessFault (fault k p d) r = noReceipt k p d
+
+abbrev pub isClean : Finding → Bool
+isClean clean = true
+isClean (fault k p d) = false
+
+module _ (book : List ℕ) (till sequence : ℕ) where
+  abbrev pub place : ℕ
+  place = heldAt till sequence (entries book)
+
+  -- the number is in the book
+  abbrev pub isPresent : Bool
+  isPresent = ltb place (length (entries book))
+
+  abbrev pub present : Entry
+  present = getD (entries book) place noEntry
+
+  -- SALE. "21, 22; if the number is present, the same question answers 'already booked' .., another question gives 23; then 24, the bundle's verdict 1-7,
+  -- 11, and the legs from the first, each for 12, 13, 14, 15; last 16."
+  unfoldable pub saleChecks : List ℕ → Question → List Check
+  saleChecks bundle q =
+      check (not (soundWords book)) 21 0 0 ∷
+      check (not (numberInLimits till sequence)) 22 0 0 ∷
+      check (isPresent && not (same (present .asked) (questionWords q))) 23 place 0 ∷
+      cond isPresent [] (check (leb capacity (length (entries book))) 24 0 0 ∷ fareChecks bundle q)
+
+  -- "with the first parts and the cancelled mark", which is the entry's status
+  unfoldable pub saleAnswer : List ℕ → Question → Receipt
+  saleAnswer bundle q =
+      unlessFault (firstFault (saleChecks bundle q))
+      (cond isPresent (receipt (AlreadyBooked (present .status)) (present .parts)) (receipt Booked (partsOf (recordsOf bundle) q)))
+
+  -- nothing fails, and the number is new
+  unfoldable pub isBooked : List ℕ → Question → Bool
+  isBooked bundle q = isClean (firstFault (saleChecks bundle q)) && not isPresent
+
+  unfoldable pub saleWords : List ℕ → Question → List ℕ
+  saleWords bundle q = cond (isBooked bundle q) (added book (booking till sequence q (partsOf (recordsOf bundle) q))) book
+
+  -- CANCEL. "21, 22, 25; a live sale becomes cancelled; a cancelled one answers 'already cancelled'. Both tell the parts."
+  unfoldable pub cancelChecks : List Check
+  cancelChecks =
+      check (not (soundWords book)) 21 0 0 ∷
+      check (not (numberInLimits till sequence)) 22 0 0 ∷
+      check (not isPresent) 25 0 0 ∷
+      []
+
+  unfoldable pub cancelAnswer : Receipt
+  cancelAnswer =
+      unlessFault (firstFault cancelChecks)
+      (receipt (cond (eqb (present .status) 0) Cancelled AlreadyCancelled) (present .parts))
+
+  unfoldable pub isCancelled : Bool
+  isCancelled = isClean (firstFault cancelChecks) && eqb (present .status) 0
+
+  unfoldable pub cancelWords : List ℕ
+  cancelWords = cond isCancelled (cancelledAt book place) book
