@@ -12,10 +12,11 @@ use lib.ListN.{getD, drop}
 use lib.Seq.{getD-drop}
 use borrow.Author.Tests.{leb-true}
 use Rattle.common.specs.Lists.{sum, every, upTo}
-use Rattle.common.proofs.Tests.{side, both-true, either-way}
+use Rattle.common.proofs.Tests.{side, both-true, either-way, in-range}
 use Rattle.common.proofs.Lists.{every-at, zero-at, upto-at, upto-same, first-length, first-at}
 use Rattle.common.proofs.Sums.{sum-both, sum-nothing, sum-swapped, hits, one-hit}
-use Rattle.fares.specs.Question.{noLeg, legsOf, legInLimits, between, inLimits, limitsOf}
+use Rattle.layout.specs.Company.{isRailway}
+use Rattle.fares.specs.Question.{noLeg, legsOf, legInLimits, inLimits, limitsOf}
 use Rattle.fares.specs.declared.Question.{Question}
 use Rattle.fares.proofs.FareLaws.{asked as asked-of}
 use Rattle.book.specs.Words.{Entry, entries, questionOf, railwayAt, fareAt, legOf}
@@ -49,14 +50,14 @@ module _ (e : Entry) (g : entrySound e ≡ true) where
   few : q .count ≤ 8
   few = asked-of q in-limits .few
 
-  railway-in : (j : ℕ) → j < q .count → between 1 9999 (getD asked (railwayAt j) 0) ≡ true
+  railway-in : (j : ℕ) → j < q .count → isRailway (getD asked (railwayAt j) 0) ≡ true
   unfolding inLimits questionOf
   railway-in j l =
       let n = first-length noLeg (q .count) (q .legs) in
       let t : every legInLimits (legsOf q) ≡ true = every-at (λ b. b) (limitsOf q) in-limits 5 true (omega arith) in
       let h : legInLimits (getD (legsOf q) j noLeg) ≡ true = every-at legInLimits (legsOf q) t j noLeg (omega (arith, n)) in
       let x : getD (legsOf q) j noLeg ≡ legOf asked j = first-at noLeg (q .count) (q .legs) j l ∙ upto-at (legOf asked) 8 j noLeg (omega (arith, few)) in
-      both-true (between 1 9999 (getD asked (railwayAt j) 0)) (leb (getD asked (fareAt j) 0) 999999) (rw x at h) .0
+      both-true (isRailway (getD asked (railwayAt j) 0)) (leb (getD asked (fareAt j) 0) 999999) (rw x at h) .0
 
   unused : (j : ℕ) → q .count ≤ j → getD (e .parts) j 0 ≡ 0
   unused j l =
@@ -68,12 +69,11 @@ module _ (e : Entry) (g : entrySound e ≡ true) where
   railway j = getD asked (railwayAt j) 0
 
   leg-whole : (j : ℕ) → sum (upTo (λ r. legPart (r + 1) asked (e .parts) j) 9999) ≡ getD (e .parts) j 0
+  unfolding isRailway
   leg-whole j = ⊎-elim used not-used (side j (q .count))
     where
       used : j < q .count → sum (upTo (hits (railway j) (getD (e .parts) j 0)) 9999) ≡ getD (e .parts) j 0
-      used l =
-          let b = both-true (leb 1 (railway j)) (leb (railway j) 9999) (railway-in j l) in
-          one-hit (railway j) (getD (e .parts) j 0) 9999 (leb-true 1 (railway j) (b .0)) (leb-true (railway j) 9999 (b .1))
+      used l = let b = in-range 1 (railway j) 9999 (railway-in j l) in one-hit (railway j) (getD (e .parts) j 0) 9999 (b .0) (b .1)
 
       not-used : q .count ≤ j → sum (upTo (hits (railway j) (getD (e .parts) j 0)) 9999) ≡ getD (e .parts) j 0
       not-used l =

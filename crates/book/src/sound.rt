@@ -11,13 +11,13 @@ use super::words::ASKED;
 use super::words::CAPACITY;
 use super::words::LEG_COUNT;
 use super::words::LENGTH;
-use super::words::PART_BOUND;
 use super::words::PARTS;
 use super::words::SEQUENCE;
 use super::words::SPARE;
 use super::words::STATUS;
 use super::words::TILL;
 use super::words::WIDTH;
+use fares::PART_BOUND;
 
 // Whether a sale number is within its limits.
 pub fn is_number(till: u32, sequence: u64) -> bool

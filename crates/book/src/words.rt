@@ -50,9 +50,6 @@ pub const CAPACITY: usize = 256;
 
 pub const LENGTH: usize = 1 + CAPACITY * WIDTH;
 
-// The most cents that a part can have: `partBound` of the fares.
-pub const PART_BOUND: u32 = 99197505;
-
 // Leg j of a question, zeros from the leg count on.
 fn leg_at(q: Question, j: usize) -> Leg
     requires { ⌜ j < 8 ⌝ }

@@ -12,7 +12,8 @@ use lib.Dec.{eqb, leb}
 use lib.ListN.{length}
 use borrow.Author.Tests.{lt-ltb, le-ltb, le-leb, lt-leb, leb-false, ltb-true, not-false}
 use Rattle.common.specs.Lists.{same}
-use Rattle.common.specs.Checks.{Finding, clean, fault, check, firstFault}
+use Rattle.common.specs.Checks.{refuse, Finding, clean, fault, check, unless, firstFault}
+use Rattle.common.specs.declared.Refusal.{Refusal}
 use Rattle.common.proofs.Checks.{one-clean}
 use Rattle.bundle.specs.Records.{recordsOf}
 use Rattle.fares.specs.Fare.{partsOf, fareChecks, quoted, fareOf}
@@ -20,7 +21,7 @@ use Rattle.fares.specs.declared.Question.{Question}
 use Rattle.fares.specs.declared.Pricing.the-variants.{Priced, Refused as NoFare}
 use Rattle.book.specs.Words.{Entry, entryAt, capacity, countOf, entries, questionWords, booking}
 use Rattle.book.specs.Sound.{numberInLimits, soundWords}
-use Rattle.sales.specs.Sales.{noReceipt, receipt, unlessFault, isClean, place, isPresent, present, saleChecks, saleAnswer, isBooked, saleWords, cancelChecks, cancelAnswer, isCancelled, cancelWords}
+use Rattle.sales.specs.Sales.{noReceipt, receipt, isClean, place, isPresent, present, saleChecks, saleAnswer, isBooked, saleWords, cancelChecks, cancelAnswer, isCancelled, cancelWords}
 use Rattle.sales.specs.declared.Outcome.{Outcome}
 use Rattle.sales.specs.declared.Outcome.the-variants.{Booked, AlreadyBooked, Cancelled, AlreadyCancelled}
 use Rattle.sales.specs.declared.Receipt.{Receipt}
@@ -43,17 +44,17 @@ module _ (w : List ℕ) (t s : ℕ) where
   the-present l = entry-is w at l
 
   module _ (b : List ℕ) (q : Question) where
-    pub sale-unsound : soundWords w ≡ false → saleAnswer w t s b q ≡ noReceipt 21 0 0
+    pub sale-unsound : soundWords w ≡ false → saleAnswer w t s b q ≡ noReceipt (refuse 21 0 0)
     unfolding saleAnswer saleChecks firstFault
     sale-unsound e = rw e
 
     module _ (ok : soundWords w ≡ true) where
-      pub sale-no-number : numberInLimits t s ≡ false → saleAnswer w t s b q ≡ noReceipt 22 0 0
+      pub sale-no-number : numberInLimits t s ≡ false → saleAnswer w t s b q ≡ noReceipt (refuse 22 0 0)
       unfolding saleAnswer saleChecks firstFault
       sale-no-number e = rw (ok, e)
 
       module _ (n : numberInLimits t s ≡ true) where
-        by-question : (d : Bool) (i : ℕ) (r : Receipt) → unlessFault (firstFault (check (not d) 23 i 0 ∷ [])) r ≡ cond d r (noReceipt 23 i 0)
+        by-question : (d : Bool) (i : ℕ) (r : Receipt) → unless noReceipt (firstFault (check (not d) 23 i 0 ∷ [])) r ≡ cond d r (noReceipt (refuse 23 i 0))
         unfolding firstFault
         by-question true i r = refl
         by-question false i r = refl
@@ -68,7 +69,7 @@ module _ (w : List ℕ) (t s : ℕ) where
         sale-again l = present-again (is-present l) ∙ ap (λ e. againAnswer e at q) (the-present l)
 
         module _ (l : countOf w ≤ at) where
-          pub sale-full : capacity ≤ countOf w → saleAnswer w t s b q ≡ noReceipt 24 0 0
+          pub sale-full : capacity ≤ countOf w → saleAnswer w t s b q ≡ noReceipt (refuse 24 0 0)
           unfolding saleAnswer saleChecks firstFault
           sale-full f = rw (ok, n, is-absent l, entries-length w, le-leb capacity (countOf w) f)
 
@@ -76,17 +77,17 @@ module _ (w : List ℕ) (t s : ℕ) where
           unfolding saleAnswer saleChecks firstFault firstAnswer
           sale-first f = rw (ok, n, is-absent l, entries-length w, lt-leb capacity (countOf w) f)
 
-  pub cancel-unsound : soundWords w ≡ false → cancelAnswer w t s ≡ noReceipt 21 0 0
+  pub cancel-unsound : soundWords w ≡ false → cancelAnswer w t s ≡ noReceipt (refuse 21 0 0)
   unfolding cancelAnswer cancelChecks firstFault
   cancel-unsound e = rw e
 
   module _ (ok : soundWords w ≡ true) where
-    pub cancel-no-number : numberInLimits t s ≡ false → cancelAnswer w t s ≡ noReceipt 22 0 0
+    pub cancel-no-number : numberInLimits t s ≡ false → cancelAnswer w t s ≡ noReceipt (refuse 22 0 0)
     unfolding cancelAnswer cancelChecks firstFault
     cancel-no-number e = rw (ok, e)
 
     module _ (n : numberInLimits t s ≡ true) where
-      pub cancel-unknown : countOf w ≤ at → cancelAnswer w t s ≡ noReceipt 25 0 0
+      pub cancel-unknown : countOf w ≤ at → cancelAnswer w t s ≡ noReceipt (refuse 25 0 0)
       unfolding cancelAnswer cancelChecks firstFault
       cancel-unknown l = rw (ok, n, is-absent l)
 
@@ -97,28 +98,24 @@ module _ (w : List ℕ) (t s : ℕ) where
 
 -- a quote that is refused, and one that is priced
 module _ (b : List ℕ) (q : Question) where
-  by-finding : (f : Finding) (parts : List ℕ) (k p d : ℕ) → quoted f parts .outcome ≡ NoFare k p d → unlessFault f (receipt Booked parts) ≡ noReceipt k p d
-  by-finding clean parts k p d e = let z : _≡_ {A = ℕ} 0 1 = cc in absurd (omega arith)
-  by-finding (fault x y z) parts k p d e =
-      let i : x ≡ k = cc in
-      let j : y ≡ p = cc in
-      let l : z ≡ d = cc in
-      rw (i, j, l)
+  by-refusal : (f : Finding) (parts : List ℕ) (r : Refusal) → quoted f parts .outcome ≡ NoFare r → unless noReceipt f (receipt Booked parts) ≡ noReceipt r
+  by-refusal clean parts r e = let z : _≡_ {A = ℕ} 0 1 = cc in absurd (omega arith)
+  by-refusal (fault why) parts r e = let i : why ≡ r = cc in ap noReceipt i
 
-  pub quote-refused : (k p d : ℕ) → fareOf b q .outcome ≡ NoFare k p d → firstAnswer b q ≡ noReceipt k p d
+  pub quote-refused : (r : Refusal) → fareOf b q .outcome ≡ NoFare r → firstAnswer b q ≡ noReceipt r
   unfolding fareOf firstAnswer
-  quote-refused k p d e = by-finding (firstFault (fareChecks b q)) (partsOf (recordsOf b) q) k p d e
+  quote-refused r e = by-refusal (firstFault (fareChecks b q)) (partsOf (recordsOf b) q) r e
 
-  by-price : (f : Finding) (parts : List ℕ) → quoted f parts .outcome ≡ Priced → unlessFault f (receipt Booked parts) ≡ receipt Booked (quoted f parts .parts)
+  by-price : (f : Finding) (parts : List ℕ) → quoted f parts .outcome ≡ Priced → unless noReceipt f (receipt Booked parts) ≡ receipt Booked (quoted f parts .parts)
   by-price clean parts e = refl
-  by-price (fault x y z) parts e = let w : _≡_ {A = ℕ} 0 1 = cc in absurd (omega arith)
+  by-price (fault why) parts e = let w : _≡_ {A = ℕ} 0 1 = cc in absurd (omega arith)
 
   pub quote-priced : fareOf b q .outcome ≡ Priced → firstAnswer b q ≡ receipt Booked (fareOf b q .parts)
   unfolding fareOf firstAnswer
   quote-priced e = by-price (firstFault (fareChecks b q)) (partsOf (recordsOf b) q) e
 
 module _ (e : Entry) (i : ℕ) (q : Question) where
-  pub again-other : same (e .asked) (questionWords q) ≡ false → againAnswer e i q ≡ noReceipt 23 i 0
+  pub again-other : same (e .asked) (questionWords q) ≡ false → againAnswer e i q ≡ noReceipt (refuse 23 i 0)
   unfolding againAnswer
   again-other d = rw d
 
@@ -137,15 +134,15 @@ module _ (w : List ℕ) (t s : ℕ) (b : List ℕ) (q : Question) where
   abbrev fresh : Receipt
   fresh = receipt Booked (partsOf (recordsOf b) q)
 
-  booked-only : (f : Finding) (p : Bool) → unlessFault f (cond p there fresh) .outcome ≡ Booked → (f ≡ clean) × (p ≡ false)
+  booked-only : (f : Finding) (p : Bool) → unless noReceipt f (cond p there fresh) .outcome ≡ Booked → (f ≡ clean) × (p ≡ false)
   booked-only clean true e = let z : _≡_ {A = ℕ} 0 1 = cc in absurd (omega arith)
   booked-only clean false e = (refl, refl)
-  booked-only (fault k x d) p e = let z : _≡_ {A = ℕ} 0 1 = cc in absurd (omega arith)
+  booked-only (fault why) p e = let z : _≡_ {A = ℕ} 0 1 = cc in absurd (omega arith)
 
-  else-not : (f : Finding) (p : Bool) → (unlessFault f (cond p there fresh) .outcome ≡ Booked → ⊥) → (isClean f && not p) ≡ false
+  else-not : (f : Finding) (p : Bool) → (unless noReceipt f (cond p there fresh) .outcome ≡ Booked → ⊥) → (isClean f && not p) ≡ false
   else-not clean true n = refl
   else-not clean false n = absurd (n refl)
-  else-not (fault k x d) p n = refl
+  else-not (fault why) p n = refl
 
   pub not-booked-stays : (saleAnswer w t s b q .outcome ≡ Booked → ⊥) → saleWords w t s b q ≡ w
   unfolding saleAnswer saleWords isBooked
@@ -186,17 +183,17 @@ module _ (w : List ℕ) (t s : ℕ) where
   isLive = eqb (present w t s .status) 0
 
   abbrev answer : Finding → Bool → Receipt
-  answer f m = unlessFault f (receipt (cond m Cancelled AlreadyCancelled) (present w t s .parts))
+  answer f m = unless noReceipt f (receipt (cond m Cancelled AlreadyCancelled) (present w t s .parts))
 
   cancelled-only : (f : Finding) (m : Bool) → answer f m .outcome ≡ Cancelled → (f ≡ clean) × (m ≡ true)
   cancelled-only clean true e = (refl, refl)
   cancelled-only clean false e = let z : _≡_ {A = ℕ} 0 1 = cc in absurd (omega arith)
-  cancelled-only (fault k x d) m e = let z : _≡_ {A = ℕ} 0 1 = cc in absurd (omega arith)
+  cancelled-only (fault why) m e = let z : _≡_ {A = ℕ} 0 1 = cc in absurd (omega arith)
 
   cancelled-not : (f : Finding) (m : Bool) → (answer f m .outcome ≡ Cancelled → ⊥) → (isClean f && m) ≡ false
   cancelled-not clean true n = absurd (n refl)
   cancelled-not clean false n = refl
-  cancelled-not (fault k x d) m n = refl
+  cancelled-not (fault why) m n = refl
 
   pub not-cancelled-stays : (cancelAnswer w t s .outcome ≡ Cancelled → ⊥) → cancelWords w t s ≡ w
   unfolding cancelAnswer cancelWords isCancelled

@@ -122,7 +122,7 @@ module _ (b : List ℕ) (q : Question) (c : firstFault (fareChecks b q) ≡ clea
 
 clean-by : (f : Finding) → isClean f ≡ true → f ≡ clean
 clean-by clean e = refl
-clean-by (fault k p d) e = never e refl
+clean-by (fault why) e = never e refl
 
 -- THE SALE, from the history's word
 module _ (w : List ℕ) (s : IsSound w) (n : Number) (b : List ℕ) (q : Question) where

@@ -164,7 +164,7 @@ module _ (first : List Op) (n : Number) (b : List ℕ) (q : Question) (more : Li
 
     -- refused by 23 at its entry if it is another,
     pub refused-other : (b′ : List ℕ) (q′ : Question) → same (questionWords q) (questionWords q′) ≡ false
-        → saleAnswer now (n .till) (n .sequence) b′ q′ ≡ noReceipt 23 i 0
+        → saleAnswer now (n .till) (n .sequence) b′ q′ ≡ noReceipt (refuse 23 i 0)
     refused-other b′ q′ h =
         sent-again b′ q′ ∙ again-other (later entry more) i q′ (ap (λ x. same x (questionWords q′)) (asked-is (cancelledIn n more)) ∙ h)
 

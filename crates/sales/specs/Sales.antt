@@ -6,7 +6,8 @@ use mathlib.Core.List.{List, [], _∷_}
 use lib.Dec.{eqb, leb, ltb}
 use lib.ListN.{length, getD, replicate}
 use Rattle.common.specs.Lists.{same}
-use Rattle.common.specs.Checks.{Finding, clean, fault, Check, check, firstFault}
+use Rattle.common.specs.Checks.{Finding, clean, fault, Check, check, unless, firstFault}
+use Rattle.common.specs.declared.Refusal.{Refusal}
 use Rattle.bundle.specs.Records.{recordsOf}
 use Rattle.fares.specs.Fare.{partsOf, fareChecks}
 use Rattle.fares.specs.declared.Question.{Question}
@@ -18,20 +19,15 @@ use Rattle.sales.specs.declared.Outcome.the-variants.{Booked, AlreadyBoo
 use Rattle.sales.specs.declared.Receipt.{Receipt}
 
 -- "Every refusal answers with all amounts zero"
-abbrev pub noReceipt : ℕ → ℕ → ℕ → Receipt
-noReceipt k p d = record { outcome = Refused k p d; parts = replicate 8 0 }
+abbrev pub noReceipt : Refusal → Receipt
+noReceipt why = record { outcome = Refused why; parts = replicate 8 0 }
 
 abbrev pub receipt : Outcome → List ℕ → Receipt
 receipt o parts = record { outcome = o; parts = parts }
 
--- refused by what was found, or answered
-abbrev pub unlessFault : Finding → Receipt → Receipt
-unlessFault clean r = r
-unlessFault (fault k p d) r = noReceipt k p d
-
 abbrev pub isClean : Finding → Bool
 isClean clean = true
-isClean (fault k p d) = false
+isClean (fault why) = false
 
 module _ (book : List ℕ) (till sequence : ℕ) where
   abbrev pub place : ℕ
@@ -56,7 +52,7 @@ module _ (book : List ℕ) (till sequence : ℕ) where
   -- "with the first parts and the cancelled mark", which is the entry's status
   unfoldable pub saleAnswer : List ℕ → Question → Receipt
   saleAnswer bundle q =
-      unlessFault (firstFault (saleChecks bundle q))
+      unless noReceipt (firstFault (saleChecks bundle q))
       (cond isPresent (receipt (AlreadyBooked (present .status)) (present .parts)) (receipt Booked (partsOf (recordsOf bundle) q)))
 
   -- nothing fails, and the number is new
@@ -76,7 +72,7 @@ module _ (book : List ℕ) (till sequence : ℕ) where
 
   unfoldable pub cancelAnswer : Receipt
   cancelAnswer =
-      unlessFault (firstFault cancelChecks)
+      unless noReceipt (firstFault cancelChecks)
       (receipt (cond (eqb (present .status) 0) Cancelled AlreadyCancelled) (present .parts))
 
   unfoldable pub isCancelled : Bool

@@ -2,20 +2,28 @@
 ghost use mathlib.Core.Path.{_≡_};
 ghost use Prim.Native.Nat.{_+_, _≤_};
 ghost use lib.ListN.{length};
+ghost use Rattle.common.specs.Checks.{refuse};
 ghost use Rattle.book.specs.Words.{width, startOf, entryAt};
 ghost use Rattle.sales.specs.Sales.{noReceipt, saleAnswer, cancelAnswer};
 ghost use Rattle.sales.specs.Helpers.{againAnswer, firstAnswer};
 use super::Outcome;
 use super::Receipt;
+use common::Refusal;
 use fares::Question;
 
-fn refused(number: u8, place: usize, detail: usize) -> Receipt
-    ensures { λ r. ⌜ r ≡ noReceipt number place detail ⌝ }
+fn no_receipt(why: Refusal) -> Receipt
+    ensures { λ r. ⌜ r ≡ noReceipt why ⌝ }
 {
     Receipt {
-        outcome: Outcome::Refused(number, place, detail),
+        outcome: Outcome::Refused(why),
         parts: [0; 8],
     }
+}
+
+fn refused(number: u8, place: usize, detail: usize) -> Receipt
+    ensures { λ r. ⌜ r ≡ noReceipt (refuse number place detail) ⌝ }
+{
+    no_receipt(common::refuse(number, place, detail))
 }
 
 pub fn judge_sale(book: &[u32], bundle: &[u8], till: u32, sequence: u64, q: Question) -> Receipt
@@ -59,7 +67,7 @@ fn sold_first(bundle: &[u8], q: Question) -> Receipt
     let quote = fares::fare(bundle, q);
     let outcome = quote.outcome;
     match outcome {
-        fares::Pricing::Refused(number, place, detail) => refused(number, place, detail),
+        fares::Pricing::Refused(why) => no_receipt(why),
         fares::Pricing::Priced => {
             let parts = quote.parts;
             Receipt {

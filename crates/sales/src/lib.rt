@@ -11,7 +11,7 @@ pub enum Outcome {
     AlreadyBooked(u32),
     Cancelled,
     AlreadyCancelled,
-    Refused(u8, usize, usize),
+    Refused(common::Refusal),
 }
 
 // The outcome with the sale's parts; all zero where it is refused.
@@ -23,7 +23,7 @@ pub struct Receipt {
 // A balance or a total in cents, or why there is none.
 pub enum Sum {
     Amount(u64),
-    Refused(u8, usize, usize),
+    Refused(common::Refusal),
 }
 
 // Books a sale, if its number is new and it can be priced.
@@ -65,10 +65,10 @@ pub fn balance(book: &[u32], railway: u32) -> Sum
     ensures { λ r. ⌜ r ≡ balanceAnswer (now (book .entry)) railway ⌝ }
 {
     if !book::sound::is_sound(book) {
-        return Sum::Refused(21, 0, 0);
+        return Sum::Refused(common::refuse(21, 0, 0));
     }
-    if !fares::limits::is_railway(railway) {
-        return Sum::Refused(11, 0, 0);
+    if !layout::company::is_railway(railway) {
+        return Sum::Refused(common::refuse(11, 0, 0));
     }
     Sum::Amount(book::sums::owed(book, railway))
 }
@@ -78,7 +78,7 @@ pub fn total(book: &[u32]) -> Sum
     ensures { λ r. ⌜ r ≡ totalAnswer (now (book .entry)) ⌝ }
 {
     if !book::sound::is_sound(book) {
-        return Sum::Refused(21, 0, 0);
+        return Sum::Refused(common::refuse(21, 0, 0));
     }
     Sum::Amount(book::sums::owed(book, book::sums::ALL))
 }
