@@ -6,13 +6,13 @@ use mathlib.Core.Bool.{Bool, true, false, cond, _||_}
 use mathlib.Core.List.{List, [], _∷_, map, map-append}
 use native.Mathlib.Numerals.{add-one}
 use native.Mathlib.Omega.{arith}
-use lib.Dec.{eqb, leb}
+use lib.Dec.{eqb}
 use lib.ListN.{getD, take, drop}
-use borrow.Author.Tests.{ne-eqb, leb-true}
+use borrow.Author.Tests.{ne-eqb}
 use Rattle.common.specs.Lists.{sum, upTo}
 use Rattle.common.proofs.Sums.{sum-append, sum-up-small}
-use Rattle.common.proofs.Tests.{both-true}
-use Rattle.fares.specs.Question.{between}
+use Rattle.common.proofs.Tests.{in-range}
+use Rattle.layout.specs.Company.{isRailway}
 use Rattle.book.specs.Words.{Entry, width, countOf, railwayAt, entryOf, entryAt, entries, askedAt, partsAt, startOf, legsAt, legWidth}
 use Rattle.book.specs.Amounts.{ofRailway, ofAll, liveAmount, balanceOf}
 use Rattle.book.specs.Helpers.{counted}
@@ -80,9 +80,10 @@ module _ (f : List ℕ → List ℕ → ℕ) where
   live-small w s i = cond-small (eqb (entryAt w i .status) 0) (f (entryAt w i .asked) (entryAt w i .parts)) mostOf (s i)
 
 -- a railway's number is not the one that stands for all
-pub counted-railway : (railway : ℕ) (es : List Entry) → between 1 9999 railway ≡ true → balanceOf (counted railway) es ≡ balanceOf (ofRailway railway) es
+pub counted-railway : (railway : ℕ) (es : List Entry) → isRailway railway ≡ true → balanceOf (counted railway) es ≡ balanceOf (ofRailway railway) es
+unfolding isRailway
 counted-railway railway es h =
-    let l = leb-true 1 railway (both-true (leb 1 railway) (leb railway 9999) h .0) in
+    let l = in-range 1 railway 9999 h .0 in
     ap (λ b. balanceOf (λ asked parts. cond b (ofAll asked parts) (ofRailway railway asked parts)) es) (ne-eqb railway 0 (λ e. omega (arith, l, e)))
 
 -- THE SUM over the entries before i, and its turn: what entry i comes to is added

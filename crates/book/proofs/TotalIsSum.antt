@@ -10,7 +10,6 @@ use native.Mathlib.Omega.{arith}
 use lib.Dec.{eqb, leb}
 use lib.ListN.{getD, drop}
 use lib.Seq.{getD-drop}
-use borrow.Author.Tests.{leb-true}
 use Rattle.common.specs.Lists.{sum, every, upTo}
 use Rattle.common.proofs.Tests.{side, both-true, either-way, in-range}
 use Rattle.common.proofs.Lists.{every-at, zero-at, upto-at, upto-same, first-length, first-at}

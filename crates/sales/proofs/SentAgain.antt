@@ -10,6 +10,7 @@ use lib.ListN.{length, getD, length-append, length-map, List·getD-append}
 use lib.Seq.{getD-at}
 use borrow.Author.Tests.{eq-eqb}
 use Rattle.common.specs.Lists.{same}
+use Rattle.common.specs.Checks.{refuse}
 use Rattle.common.proofs.Sums.{map-at}
 use Rattle.bundle.specs.Records.{recordsOf}
 use Rattle.fares.specs.Fare.{partsOf}

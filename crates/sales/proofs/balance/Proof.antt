@@ -1,6 +1,7 @@
 -- `sales::balance` meets its contract.
 -- Assumes nothing.
-use mathlib.Core.Path.{_∙_}
+use Rattle.sales.specs.declared.Sum.the-variants.{Refused}
+use mathlib.Core.Path.{sym, _∙_, ap}
 use Rattle.common.specs.Checks.{firstFault}
 use Rattle.common.proofs.Tests.{fails, holds}
 use Rattle.book.specs.Words.{entries}
@@ -12,11 +13,14 @@ use Rattle.sales.proofs.balance.Tie as tie
 
 returns : tie.Need-returns
 unfolding balanceAnswer firstFault
-returns c = rw (fails (c .before .is-sound .result) (c .if1 .taken) (c .before .is-sound .ensures))
+returns c = let f = c .before in ap Refused (c .refuse .ensures) ∙ sym (rw (fails (f .before .is-sound .result) (f .if1 .taken) (f .before .is-sound .ensures)))
 
 returns-2 : tie.Need-returns-2
 unfolding balanceAnswer firstFault
-returns-2 c = let e = c .before .before in rw (holds (e .before .is-sound .result) (e .if1 .left) (e .before .is-sound .ensures), fails (c .before .is-railway .result) (c .if2 .taken) (c .before .is-railway .ensures))
+returns-2 c =
+    let f = c .before in
+    let e = f .before .before in
+    ap Refused (c .refuse2 .ensures) ∙ sym (rw (holds (e .before .is-sound .result) (e .if1 .left) (e .before .is-sound .ensures), fails (f .before .is-railway .result) (f .if2 .taken) (f .before .is-railway .ensures)))
 
 owed-requires : tie.Need-owed-requires
 owed-requires c κs = let e = c .before .before in holds (e .before .is-sound .result) (e .if1 .left) (e .before .is-sound .ensures)
@@ -31,4 +35,4 @@ returns-3 c =
     rw (holds (e .before .is-sound .result) (e .if1 .left) (e .before .is-sound .ensures), own, c .owed .ensures ∙ counted-railway (a .railway) (entries (a .book .now)) own)
 
 pub balance-spec : {M : Type 1} → statement M
-balance-spec = tie.close (tie.spec (λ c κs. search needs) returns (λ c κs. search needs) returns-2 owed-requires returns-3)
+balance-spec = tie.close (tie.spec (λ c κs. search needs) (λ c κs. search needs) returns (λ c κs. search needs) (λ c κs. search needs) returns-2 owed-requires returns-3)

@@ -12,7 +12,7 @@ returns c =
     let k = c .before in
     let f = k .before .before .before in
     let a = f .before .before .args in
-    c .refused .ensures ∙ sym (quote-refused (a .bundle .now) (a .q) _ _ _ (ap (λ x. x .outcome) (sym (f .fare .ensures)) ∙ k .before .outcome .given .1))
+    c .no-receipt .ensures ∙ sym (quote-refused (a .bundle .now) (a .q) _ (ap (λ x. x .outcome) (sym (f .fare .ensures)) ∙ k .before .outcome .given .1))
 
 returns-2 : tie.Need-returns-2
 returns-2 c =
