@@ -19,23 +19,16 @@ use Rattle.common.proofs.Lists.{is-same, every-so}
 use Rattle.common.proofs.Digits.{within-same}
 use Rattle.layout.specs.Layout.{tableAt, lengthOf}
 use Rattle.layout.specs.Company.{companyOf, isAllRailways}
-use Rattle.layout.specs.Fields.{bytesOf, offerOf, railwayOf, codeOf, codeFits, sameKey}
-use Rattle.layout.proofs.Tables.{ofOffers, offer-stands, railway-stands, offer-kept, railway-kept, code-kept}
+use Rattle.layout.specs.Fields.{bytesOf, ofOffers, offerOf, railwayOf, codeOf, codeFits, sameKey}
+use Rattle.layout.proofs.Tables.{offer-stands, railway-stands, offer-kept, railway-kept, code-kept}
 use Rattle.layout.proofs.Companies.{same-company, all-railways-zero}
 use Rattle.bundle.specs.Records.{Rec}
 use Rattle.bundle.specs.Keys.{clash}
-use Rattle.bundle.specs.Choice.{isOf, isOwn, isGeneral, choiceOf}
+use Rattle.bundle.specs.Choice.{isKeyed, forLegs, isOf, isOwn, isGeneral, choiceOf}
 use Rattle.bundle.specs.Meaning.{recordAt, KeepsRules, Good}
 use Rattle.bundle.specs.declared.choice.Wanted.{Wanted}
 use Rattle.bundle.specs.declared.choice.Choice.the-variants.{At}
 use Rattle.bundle.proofs.ChoiceLaws.{choice-by}
-
--- a table that a leg's record may be chosen from: its key is the offer, the railway and, where it has one, the code
-abbrev isKeyed : ℕ → ℕ → Bool
-isKeyed t f = eqb f 2 || (eqb f 3 || (eqb f (tableAt t .code) && not (eqb (tableAt t .code) 0)))
-
-unfoldable pub forLegs : ℕ → Bool
-forLegs t = ofOffers t && every (isKeyed t) (tableAt t .key)
 
 -- what the tests say of a record that is the railway's own
 record Found (w : Wanted) (r : Rec) : Type 0 where

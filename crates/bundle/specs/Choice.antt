@@ -1,18 +1,27 @@
 -- The record that is used for a leg (document 01, 'Pricing'): that of the offer and the railway, or else the offer's one for all railways.
 -- Assumes nothing.
 use Prim.Native.Nat.{ℕ}
-use mathlib.Core.Bool.{Bool, cond, _&&_}
+use mathlib.Core.Bool.{Bool, cond, not, _&&_, _||_}
 use mathlib.Core.List.{List}
 use lib.Dec.{eqb, ltb}
 use lib.ListN.{length, getD}
 use Rattle.common.specs.Least.{least}
+use Rattle.common.specs.Lists.{every}
 use Rattle.common.specs.Digits.{numberOf, valueOf}
+use Rattle.layout.specs.Layout.{tableAt}
 use Rattle.layout.specs.Company.{companyOf, isAllRailways}
-use Rattle.layout.specs.Fields.{offerOf, railwayOf, codeFits, holdsDay}
+use Rattle.layout.specs.Fields.{ofOffers, offerOf, railwayOf, codeFits, holdsDay}
 use Rattle.bundle.specs.Records.{Rec, noRec}
 use Rattle.bundle.specs.declared.choice.Wanted.{Wanted}
 use Rattle.bundle.specs.declared.choice.Choice.{Choice}
 use Rattle.bundle.specs.declared.choice.Choice.the-variants.{At, NotThatDay, Nothing}
+
+-- a table that a leg's record may be chosen from: its key is the offer, the railway and, where it has one, the code
+abbrev pub isKeyed : ℕ → ℕ → Bool
+isKeyed t f = eqb f 2 || (eqb f 3 || (eqb f (tableAt t .code) && not (eqb (tableAt t .code) 0)))
+
+unfoldable pub forLegs : ℕ → Bool
+forLegs t = ofOffers t && every (isKeyed t) (tableAt t .key)
 
 -- a record of the table, of the offer and, where the table has one, of the code
 unfoldable pub isOf : Wanted → Rec → Bool

@@ -19,7 +19,7 @@ use Rattle.common.specs.Digits.{numberOf, valueOf, isWithin}
 use Rattle.common.proofs.Lists.{same-is, same-parts}
 use Rattle.common.proofs.Tests.{never, both-true, side}
 use Rattle.layout.specs.Layout.{CO, NUMBER, FIRST-DAY, LAST-DAY, Table, noTable, tables, tableCount, tableAt, endOf, lengthOf, standFrom, numbers, layoutFrom, layout}
-use Rattle.layout.specs.Fields.{fieldAt, bytesIn, rowWith, rowOf, bytesOf, transferorOf, offerOf, railwayOf, codeOf, codeFits, sameKey, dayRow, hasPeriod, isFlagRow}
+use Rattle.layout.specs.Fields.{fieldAt, bytesIn, rowWith, rowOf, bytesOf, transferorOf, ofOffers, offerOf, railwayOf, codeOf, codeFits, sameKey, dayRow, hasPeriod, isFlagRow}
 use Rattle.layout.specs.Company.{isCompany}
 use Rattle.layout.specs.Rules.{ruled, obeysRow, firstBroken, brokenField, keepsRules}
 use Rattle.layout.specs.Helpers.{asRow, rowCount, firstRow, noSpan, codeSpan, keyLength}
@@ -64,10 +64,6 @@ alike f t = same (numbers 0 (rowOf t f)) (numbers 0 (rowOf CO f))
 
 abbrev has : ℕ → ℕ → Bool
 has f t = any (λ (r : Row). eqb (r .field) f) (tableAt t .rows)
-
--- a table of offers: field 3, the railway, is in its key
-unfoldable pub ofOffers : ℕ → Bool
-ofOffers t = any (eqb 3) (tableAt t .key)
 
 row-alike : (f t : ℕ) → alike f t ≡ true → rowOf t f ≡ rowOf CO f
 row-alike f t e = ap asRow (same-is (numbers 0 (rowOf t f)) (numbers 0 (rowOf CO f)) e)

@@ -44,7 +44,11 @@ isFlagRow row = eqb (row .kind) FLAG || eqb (row .kind) FLAG-OR-BLANK
 unfoldable pub isYes : ℕ → ℕ → List ℕ → Bool
 isYes t f body = isFlagRow (rowOf t f) && eqb (byteOf t f body) byte-Y
 
--- "all | 1 transferor" and "CO, AR, ME | 2 offer; 3 railway": these stand in every table that has them where CO has them (the law `stand-alike`)
+-- "all | 1 transferor" and "CO, AR, ME | 2 offer; 3 railway": these stand where CO has them, in every table and in every table of offers
+-- (`the-transferor-stands-alike` and its fellows among the promises). A table of offers has field 3, the railway, in its key.
+unfoldable pub ofOffers : ℕ → Bool
+ofOffers t = any (eqb 3) (tableAt t .key)
+
 unfoldable pub transferorOf : List ℕ → List ℕ
 transferorOf body = bytesOf CO 1 body
 

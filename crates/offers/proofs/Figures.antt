@@ -3,6 +3,7 @@
 use mathlib.Core.Path.{refl, sym, subst}
 use mathlib.Core.List.{List, [], _∷_, List·Memᴰ, List·Memᴰ·not-nil, List·Memᴰ·cases-cons}
 use mathlib.Core.Logic.{⊎-elim}
+use Rattle.layout.specs.Layout.{endOf, lengthOf, tableAt, tables}
 use Rattle.layout.specs.Dates.{isDay, monthLength, monthLengths}
 use Rattle.fares.specs.Rounding.{upwards, downwards, nearest, rounded}
 use Rattle.fares.specs.Reductions.{reduceBy}
@@ -18,5 +19,5 @@ each (y ∷ ys) a x m = ⊎-elim (λ e. subst Says (sym e) (a .0)) (λ n. each y
 
 -- THE FIGURES: antt computes each entry.
 pub figures-hold : (x : Figure) → List·Memᴰ x figures → Says x
-unfolding isDay monthLength monthLengths reduceBy rounded upwards downwards nearest
-figures-hold = each figures (refl, (refl, (refl, (refl, (refl, (refl, (refl, (refl, (refl, (refl, (refl, (refl, (refl, (refl, (refl, (refl, (refl, tt)))))))))))))))))
+unfolding lengthOf endOf tableAt tables isDay monthLength monthLengths reduceBy rounded upwards downwards nearest
+figures-hold = each figures (refl, (refl, (refl, (refl, (refl, (refl, (refl, (refl, (refl, (refl, (refl, (refl, (refl, (refl, (refl, (refl, (refl, (refl, (refl, (refl, (refl, tt)))))))))))))))))))))

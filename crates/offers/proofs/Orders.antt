@@ -4,95 +4,81 @@ use Prim.Native.Nat.{ℕ}
 use mathlib.Core.Path.{_≡_, refl, sym, _∙_, ap}
 use mathlib.Core.Bool.{Bool, true, false, cond}
 use mathlib.Core.List.{List, [], _∷_, _++_}
+use mathlib.Core.Logic.{⊎-elim}
 use native.Mathlib.Omega.{arith}
 use lib.Dec.{eqb, leb}
 use lib.ListN.{length, replicate}
 use Rattle.common.specs.Lists.{every, any, sum}
-use Rattle.common.specs.Checks.{Finding, clean, fault, Check, check, firstFault, eachFrom, TellsOf}
-use Rattle.common.proofs.Checks.{clean-means, means-clean, fault-means, means-fault, append-tells, each-tells, first-among}
+use Rattle.common.specs.Checks.{Finding, clean, fault, Check, check, unless, firstFault, eachFrom, TellsOf}
+use Rattle.common.specs.declared.Refusal.{Refusal}
+use Rattle.common.proofs.Checks.{by-finding, clean-means, means-clean, fault-means, means-fault, append-tells, each-tells, first-among}
 use Rattle.bundle.specs.Records.{restOf, recordsOf}
-use Rattle.bundle.specs.Verdict.{fieldChecks, endChecks, firstPass, recordChecks, secondPass, checks, judged, verdictOf}
+use Rattle.bundle.specs.Verdict.{fieldChecks, endChecks, firstPass, recordChecks, secondPass, checks, verdictOf}
 use Rattle.bundle.specs.declared.Judgement.{Judgement}
 use Rattle.bundle.specs.declared.Judgement.the-variants.{Accepted, Refused}
 use Rattle.fares.specs.Question.{legsOf}
 use Rattle.fares.specs.Legs.{legChecks}
-use Rattle.fares.specs.Fare.{partsOf, priceChecks, fareChecks, quoted, fareOf}
+use Rattle.fares.specs.Fare.{partsOf, priceChecks, fareChecks, noFare, priced, fareOf}
 use Rattle.fares.specs.declared.Question.{Question}
 use Rattle.book.specs.Words.{capacity, entries}
-use Rattle.sales.specs.Sales.{unlessFault, receipt, isPresent, present, saleChecks, saleAnswer, cancelChecks, cancelAnswer}
+use Rattle.sales.specs.Sales.{noReceipt, receipt, isPresent, present, saleChecks, saleAnswer, cancelChecks, cancelAnswer}
 use Rattle.book.specs.Amounts.{ofRailway, ofAll, balanceOf}
-use Rattle.sales.specs.Balances.{summed, balanceChecks, totalChecks, balanceAnswer, totalAnswer}
+use Rattle.sales.specs.Balances.{balanceChecks, totalChecks, balanceAnswer, totalAnswer}
 use Rattle.sales.specs.declared.Receipt.{Receipt}
+use Rattle.sales.specs.declared.Sum.the-variants.{Amount, Refused as NoSum}
 use Rattle.sales.specs.declared.Outcome.{Outcome}
 use Rattle.sales.specs.declared.Outcome.the-variants.{Booked, AlreadyBooked, Cancelled, AlreadyCancelled, Refused as NoEntry}
 use Rattle.offers.specs.Answers.{Told, answers, refuses, verdictTells, pricingTells, fareTells, booked, alreadyBooked, cancelled, alreadyCancelled, outcomeTells, receiptTells, sumTells, Follows}
 use Rattle.offers.specs.Answers.{verdictNumbers, fareNumbers, saleNumbers, cancelNumbers, balanceNumbers, totalNumbers, Among}
 
--- what is told by what the checks come to
+-- WHAT IS TOLD by what the checks come to: a refusal with n zeros, or the values
+abbrev noValues : ℕ → Refusal → Told
+noValues n why = refuses why (replicate n 0)
+
 abbrev tellsBy : ℕ → Finding → List ℕ → Told
-tellsBy n clean vs = answers vs
-tellsBy n (fault k p d) vs = refuses k p d (replicate n 0)
+tellsBy n f vs = unless (noValues n) f (answers vs)
 
 told-clean : (n : ℕ) (f : Finding) (vs us : List ℕ) → tellsBy n f vs ≡ answers us → (f ≡ clean) × (us ≡ vs)
-told-clean n clean vs us e = (refl, cc)
-told-clean n (fault k p d) vs us e = let z : _≡_ {A = ℕ} 0 1 = cc in absurd (omega arith)
+told-clean n f vs us e = ⊎-elim (λ h. (h .0, cc)) (λ h. let z : _≡_ {A = ℕ} 0 1 = cc in absurd (omega arith)) (by-finding (noValues n) f (answers vs) e)
 
-told-fault : (n : ℕ) (f : Finding) (vs us : List ℕ) (k p d : ℕ) → tellsBy n f vs ≡ refuses k p d us → (f ≡ fault k p d) × (us ≡ replicate n 0)
-told-fault n clean vs us k p d e = let z : _≡_ {A = ℕ} 0 1 = cc in absurd (omega arith)
-told-fault n (fault a b c) vs us k p d e =
-    let x : a ≡ k = cc in
-    let y : b ≡ p = cc in
-    let z : c ≡ d = cc in
-    (rw (x, y, z), cc)
+told-fault : (n : ℕ) (f : Finding) (vs us : List ℕ) (why : Refusal) → tellsBy n f vs ≡ refuses why us → (f ≡ fault why) × (us ≡ replicate n 0)
+told-fault n f vs us why e =
+    ⊎-elim (λ h. let z : _≡_ {A = ℕ} 0 1 = cc in absurd (omega arith)) (λ h. (cc, cc)) (by-finding (noValues n) f (answers vs) e)
 
 follows : (t : Told) (cs : List Check) (n : ℕ) (vs : List ℕ) → t ≡ tellsBy n (firstFault cs) vs → Follows t cs n vs
 follows t cs n vs e =
     record {
-      refused-by = λ k p d us h. let r = told-fault n (firstFault cs) vs us k p d (sym e ∙ h) in (fault-means cs k p d (r .0), r .1);
-      first-refuses = λ k p d f. e ∙ rw (means-fault cs k p d f);
+      refused-by = λ why us h. let r = told-fault n (firstFault cs) vs us why (sym e ∙ h) in (fault-means cs why (r .0), r .1);
+      first-refuses = λ why f. e ∙ rw (means-fault cs why f);
       answered-if = λ us h. let r = told-clean n (firstFault cs) vs us (sym e ∙ h) in (clean-means cs (r .0), r .1);
       passing-answers = λ a. e ∙ rw (means-clean cs a);
     }
 
+-- an answer that is told tells what was found, whatever kind of answer it is
+told : {A : Type 0} (tells : A → Told) (turned-away : Refusal → A) (f : Finding) (a : A)
+    → tells (unless turned-away f a) ≡ unless (λ why. tells (turned-away why)) f (tells a)
+told tells turned-away clean a = refl
+told tells turned-away (fault why) a = refl
+
 module _ (s : List ℕ) where
-  told-verdict : (f : Finding) (n : ℕ) → verdictTells (judged f n) ≡ tellsBy 1 f (n ∷ [])
-  unfolding verdictTells
-  told-verdict clean n = refl
-  told-verdict (fault k p d) n = refl
-
   pub verdict-follows : Follows (verdictTells (verdictOf s)) (checks s) 1 (length (recordsOf s) ∷ [])
-  unfolding verdictOf
-  verdict-follows = follows _ (checks s) 1 _ (told-verdict (firstFault (checks s)) (length (recordsOf s)))
-
-  told-fare : (f : Finding) (parts : List ℕ) → fareTells (quoted f parts) ≡ tellsBy 9 f (sum parts ∷ parts)
-  unfolding fareTells pricingTells
-  told-fare clean parts = refl
-  told-fare (fault k p d) parts = refl
+  unfolding verdictOf verdictTells
+  verdict-follows = follows _ (checks s) 1 _ (told verdictTells Refused (firstFault (checks s)) (Accepted (length (recordsOf s))))
 
   pub fare-follows : (q : Question) → let parts = partsOf (recordsOf s) q in Follows (fareTells (fareOf s q)) (fareChecks s q) 9 (sum parts ∷ parts)
-  unfolding fareOf
-  fare-follows q = follows _ (fareChecks s q) 9 _ (told-fare (firstFault (fareChecks s q)) (partsOf (recordsOf s) q))
+  unfolding fareOf fareTells pricingTells
+  fare-follows q = follows _ (fareChecks s q) 9 _ (told fareTells noFare (firstFault (fareChecks s q)) (priced (partsOf (recordsOf s) q)))
 
 module _ (w : List ℕ) where
-  told-sum : (f : Finding) (n : ℕ) → sumTells (summed f n) ≡ tellsBy 1 f (n ∷ [])
-  unfolding sumTells
-  told-sum clean n = refl
-  told-sum (fault k p d) n = refl
-
   pub balance-follows : (railway : ℕ) → Follows (sumTells (balanceAnswer w railway)) (balanceChecks w railway) 1 (balanceOf (ofRailway railway) (entries w) ∷ [])
-  unfolding balanceAnswer
-  balance-follows railway = follows _ (balanceChecks w railway) 1 _ (told-sum (firstFault (balanceChecks w railway)) (balanceOf (ofRailway railway) (entries w)))
+  unfolding balanceAnswer sumTells
+  balance-follows railway = follows _ (balanceChecks w railway) 1 _ (told sumTells NoSum (firstFault (balanceChecks w railway)) (Amount (balanceOf (ofRailway railway) (entries w))))
 
   pub total-follows : Follows (sumTells (totalAnswer w)) (totalChecks w) 1 (balanceOf ofAll (entries w) ∷ [])
-  unfolding totalAnswer
-  total-follows = follows _ (totalChecks w) 1 _ (told-sum (firstFault (totalChecks w)) (balanceOf ofAll (entries w)))
+  unfolding totalAnswer sumTells
+  total-follows = follows _ (totalChecks w) 1 _ (told sumTells NoSum (firstFault (totalChecks w)) (Amount (balanceOf ofAll (entries w))))
 
   module _ (t s : ℕ) where
-    told-receipt : (f : Finding) (r : Receipt) (vs : List ℕ) → receiptTells r ≡ answers vs → receiptTells (unlessFault f r) ≡ tellsBy 10 f vs
-    unfolding receiptTells outcomeTells
-    told-receipt clean r vs e = e
-    told-receipt (fault k p d) r vs e = refl
-
     told-sold : (b : Bool) (again first : List ℕ) → let status = present w t s .status in
         receiptTells (cond b (receipt (AlreadyBooked status) again) (receipt Booked first)) ≡ answers (cond b (alreadyBooked ∷ status ∷ again) (booked ∷ 0 ∷ first))
     unfolding receiptTells outcomeTells
@@ -101,10 +87,11 @@ module _ (w : List ℕ) where
 
     pub sale-follows : (b : List ℕ) (q : Question) → Follows (receiptTells (saleAnswer w t s b q)) (saleChecks w t s b q) 10
         (cond (isPresent w t s) (alreadyBooked ∷ present w t s .status ∷ present w t s .parts) (booked ∷ 0 ∷ partsOf (recordsOf b) q))
-    unfolding saleAnswer
+    unfolding saleAnswer receiptTells outcomeTells
     sale-follows b q =
         follows _ (saleChecks w t s b q) 10 _
-        (told-receipt (firstFault (saleChecks w t s b q)) _ _ (told-sold (isPresent w t s) (present w t s .parts) (partsOf (recordsOf b) q)))
+        (told receiptTells noReceipt (firstFault (saleChecks w t s b q)) _
+        ∙ ap (λ x. unless (noValues 10) (firstFault (saleChecks w t s b q)) x) (told-sold (isPresent w t s) (present w t s .parts) (partsOf (recordsOf b) q)))
 
     told-cancelled : (b : Bool) (parts : List ℕ)
         → receiptTells (receipt (cond b Cancelled AlreadyCancelled) parts) ≡ answers (cond b cancelled alreadyCancelled ∷ 1 ∷ parts)
@@ -114,10 +101,11 @@ module _ (w : List ℕ) where
 
     pub cancel-follows : Follows (receiptTells (cancelAnswer w t s)) (cancelChecks w t s) 10
         (cond (eqb (present w t s .status) 0) cancelled alreadyCancelled ∷ 1 ∷ present w t s .parts)
-    unfolding cancelAnswer
+    unfolding cancelAnswer receiptTells outcomeTells
     cancel-follows =
         follows _ (cancelChecks w t s) 10 _
-        (told-receipt (firstFault (cancelChecks w t s)) _ _ (told-cancelled (eqb (present w t s .status) 0) (present w t s .parts)))
+        (told receiptTells noReceipt (firstFault (cancelChecks w t s)) _
+        ∙ ap (λ x. unless (noValues 10) (firstFault (cancelChecks w t s)) x) (told-cancelled (eqb (present w t s .status) 0) (present w t s .parts)))
 
 -- The numbers of each call.
 module _ (s : List ℕ) where
@@ -164,14 +152,14 @@ total-numbers w = refl
 
 -- a refusal tells one of its call's numbers
 pub refused-among : {t : Told} {cs : List Check} {n : ℕ} {vs : List ℕ} (ns : List ℕ) → Follows t cs n vs → TellsOf ns cs
-    → (k p d : ℕ) (us : List ℕ) → t ≡ refuses k p d us → Among ns k
-refused-among {cs = cs} ns f e k p d us h = first-among ns cs e k p d (f .refused-by k p d us h .0)
+    → (why : Refusal) (us : List ℕ) → t ≡ refuses why us → Among ns (why .number)
+refused-among {cs = cs} ns f e why us h = first-among ns cs e why (f .refused-by why us h .0)
 
 -- What is told tells the answer.
 pub told-accepted : (j : Judgement) (n : ℕ) → verdictTells j ≡ answers (n ∷ []) → j ≡ Accepted n
 unfolding verdictTells
 told-accepted (Accepted m) n e = let x : m ≡ n = cc in rw x
-told-accepted (Refused k p d) n e = let z : _≡_ {A = ℕ} 0 1 = cc in absurd (omega arith)
+told-accepted (Refused why) n e = let z : _≡_ {A = ℕ} 0 1 = cc in absurd (omega arith)
 
 outcome-booked : (o : Outcome) (ps parts : List ℕ) → outcomeTells o ps ≡ answers (booked ∷ 0 ∷ parts) → (o ≡ Booked) × (ps ≡ parts)
 unfolding outcomeTells
@@ -179,7 +167,7 @@ outcome-booked Booked ps parts e = (refl, cc)
 outcome-booked (AlreadyBooked status) ps parts e = let z : alreadyBooked ≡ booked = cc in absurd (omega (arith, z))
 outcome-booked Cancelled ps parts e = let z : cancelled ≡ booked = cc in absurd (omega (arith, z))
 outcome-booked AlreadyCancelled ps parts e = let z : alreadyCancelled ≡ booked = cc in absurd (omega (arith, z))
-outcome-booked (NoEntry k p d) ps parts e = let z : _≡_ {A = ℕ} 0 1 = cc in absurd (omega arith)
+outcome-booked (NoEntry why) ps parts e = let z : _≡_ {A = ℕ} 0 1 = cc in absurd (omega arith)
 
 pub told-booked : (r : Receipt) (parts : List ℕ) → receiptTells r ≡ answers (booked ∷ 0 ∷ parts) → (r .outcome ≡ Booked) × (r .parts ≡ parts)
 unfolding receiptTells

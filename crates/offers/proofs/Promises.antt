@@ -1,32 +1,37 @@
 -- The headline theorems under readable names. docs/PROMISES.md says which demand each renders.
 -- Assumes nothing.
 use Prim.Native.Nat.{ℕ, _+_, _-_, _*_, _≤_, _<_}
-use mathlib.Core.Path.{_≡_, sym, _∙_, ap}
+use mathlib.Core.Path.{_≡_, refl, sym, _∙_, ap}
 use mathlib.Core.Bool.{true, false, cond}
 use mathlib.Core.List.{List, [], _∷_, _++_}
 use mathlib.Core.Logic.{_⊎_}
 use lib.Dec.{eqb, ltb}
 use lib.ListN.{length, getD, replicate}
-use Rattle.common.specs.Lists.{sum, same, upTo}
-use Rattle.common.specs.Checks.{firstFault}
-use Rattle.layout.specs.Tables.{CO, AR}
+use Rattle.common.specs.Lists.{every, any, sum, same, upTo}
+use Rattle.common.specs.Checks.{refuse, firstFault}
+use Rattle.common.specs.declared.Refusal.{Refusal}
+use Rattle.layout.specs.Layout.{CO, AR, ME, Table, tables, tableAt, tableCount, standFrom}
+use Rattle.layout.specs.Company.{isRailway}
+use Rattle.layout.specs.Fields.{bytesOf, ofOffers, transferorOf, offerOf, railwayOf}
+use Rattle.layout.specs.declared.fields.Grant.{Grant}
+use Rattle.layout.proofs.Tables.{rows-stand, transferor-stands, offer-stands, railway-stands}
 use Rattle.bundle.specs.Records.{Rec, recordsOf}
 use Rattle.bundle.specs.Verdict.{checks, verdictOf}
 use Rattle.bundle.specs.Meaning.{Good, recordAt}
-use Rattle.bundle.specs.Choice.{isOwn, isGeneral, ownAt, choiceOf}
+use Rattle.bundle.specs.Choice.{forLegs, isOwn, isGeneral, choiceOf}
+use Rattle.bundle.specs.declared.choice.Wanted.{Wanted}
 use Rattle.bundle.specs.declared.Judgement.{Judgement}
 use Rattle.bundle.specs.declared.choice.Choice.the-variants.{At}
-use Rattle.bundle.proofs.Unique.{ForLegs, only-own, only-general, chosen-is-own-or-general}
+use Rattle.bundle.proofs.Unique.{only-own, only-general, chosen-is-own-or-general}
 use Rattle.bundle.proofs.Meaning.{accepted-good, good-accepted}
-use Rattle.fares.specs.Question.{between, noLeg, legsOf, inLimits}
+use Rattle.fares.specs.Question.{noLeg, legsOf, inLimits}
 use Rattle.fares.specs.Rounding.{unit, IsUp, IsDown, IsNear, IsRounded}
 use Rattle.fares.specs.Reductions.{conditionsGrant, cardGrants, reduceBy, reduceAll}
-use Rattle.fares.specs.Legs.{partBy, chosenBody, conditionsFor, stepsOf}
+use Rattle.fares.specs.Legs.{chosen, bodies, bodyOf, stepsOf, partOf}
 use Rattle.fares.specs.Fare.{partsOf, mostFare, fareChecks, fareOf}
 use Rattle.fares.specs.declared.Leg.{Leg}
 use Rattle.fares.specs.declared.Question.{Question}
 use Rattle.fares.specs.declared.Quote.{Quote}
-use Rattle.fares.specs.declared.reductions.Reduction.{Reduction}
 use Rattle.fares.proofs.RoundLaws.{up-only, down-only, near-only}
 use Rattle.fares.proofs.StepLaws.{whole-discount}
 use Rattle.fares.proofs.LegLaws.{leg-small}
@@ -52,11 +57,11 @@ use Rattle.offers.proofs.Orders.{told-accepted, told-booked, booked-tol
 
 -- DEMAND 1. Each call follows its order of checks: it is refused by the first that fails, with every value zero, and by no other; and it is answered
 -- exactly where none fails, with these values.
-pub a-verdict-follows-its-checks : (s : List ℕ) → Follows (verdictTells (verdictOf s)) (checks s) 1 (length (recordsOf s) ∷ [])
+pub a-verdict-follows-its-checks : (bundle : List ℕ) → Follows (verdictTells (verdictOf bundle)) (checks bundle) 1 (length (recordsOf bundle) ∷ [])
 a-verdict-follows-its-checks = verdict-follows
 
-pub a-fare-follows-its-checks : (s : List ℕ) (q : Question) → let parts = partsOf (recordsOf s) q in
-    Follows (fareTells (fareOf s q)) (fareChecks s q) 9 (sum parts ∷ parts)
+pub a-fare-follows-its-checks : (bundle : List ℕ) (q : Question) → let parts = partsOf (recordsOf bundle) q in
+    Follows (fareTells (fareOf bundle q)) (fareChecks bundle q) 9 (sum parts ∷ parts)
 a-fare-follows-its-checks = fare-follows
 
 pub a-sale-follows-its-checks : (book : List ℕ) (till sequence : ℕ) (bundle : List ℕ) (q : Question) → let e = present book till sequence in
@@ -76,69 +81,87 @@ pub a-total-follows-its-checks : (book : List ℕ) → Follows (sumTells (totalA
 a-total-follows-its-checks = total-follows
 
 -- No call tells a number that is not in its table.
-pub the-numbers-of-a-verdict : (s : List ℕ) (k p d : ℕ) (us : List ℕ) → verdictTells (verdictOf s) ≡ refuses k p d us → Among verdictNumbers k
-the-numbers-of-a-verdict s = refused-among verdictNumbers (verdict-follows s) (verdict-numbers s)
+pub the-numbers-of-a-verdict : (bundle : List ℕ) (why : Refusal) (us : List ℕ) → verdictTells (verdictOf bundle) ≡ refuses why us → Among verdictNumbers (why .number)
+the-numbers-of-a-verdict bundle = refused-among verdictNumbers (verdict-follows bundle) (verdict-numbers bundle)
 
-pub the-numbers-of-a-fare : (s : List ℕ) (q : Question) (k p d : ℕ) (us : List ℕ) → fareTells (fareOf s q) ≡ refuses k p d us → Among fareNumbers k
-the-numbers-of-a-fare s q = refused-among fareNumbers (fare-follows s q) (fare-numbers s q)
+pub the-numbers-of-a-fare : (bundle : List ℕ) (q : Question) (why : Refusal) (us : List ℕ) → fareTells (fareOf bundle q) ≡ refuses why us → Among fareNumbers (why .number)
+the-numbers-of-a-fare bundle q = refused-among fareNumbers (fare-follows bundle q) (fare-numbers bundle q)
 
-pub the-numbers-of-a-sale : (book : List ℕ) (till sequence : ℕ) (bundle : List ℕ) (q : Question) (k p d : ℕ) (us : List ℕ)
-    → receiptTells (saleAnswer book till sequence bundle q) ≡ refuses k p d us → Among saleNumbers k
+pub the-numbers-of-a-sale : (book : List ℕ) (till sequence : ℕ) (bundle : List ℕ) (q : Question) (why : Refusal) (us : List ℕ)
+    → receiptTells (saleAnswer book till sequence bundle q) ≡ refuses why us → Among saleNumbers (why .number)
 the-numbers-of-a-sale book till sequence bundle q = refused-among saleNumbers (sale-follows book till sequence bundle q) (sale-numbers bundle book till sequence q)
 
-pub the-numbers-of-a-cancellation : (book : List ℕ) (till sequence k p d : ℕ) (us : List ℕ) → receiptTells (cancelAnswer book till sequence) ≡ refuses k p d us → Among cancelNumbers k
+pub the-numbers-of-a-cancellation : (book : List ℕ) (till sequence : ℕ) (why : Refusal) (us : List ℕ) → receiptTells (cancelAnswer book till sequence) ≡ refuses why us → Among cancelNumbers (why .number)
 the-numbers-of-a-cancellation book till sequence = refused-among cancelNumbers (cancel-follows book till sequence) (cancel-numbers book till sequence)
 
-pub the-numbers-of-a-balance : (book : List ℕ) (railway k p d : ℕ) (us : List ℕ) → sumTells (balanceAnswer book railway) ≡ refuses k p d us → Among balanceNumbers k
+pub the-numbers-of-a-balance : (book : List ℕ) (railway : ℕ) (why : Refusal) (us : List ℕ) → sumTells (balanceAnswer book railway) ≡ refuses why us → Among balanceNumbers (why .number)
 the-numbers-of-a-balance book railway = refused-among balanceNumbers (balance-follows book railway) (balance-numbers book railway)
 
-pub the-numbers-of-a-total : (book : List ℕ) (k p d : ℕ) (us : List ℕ) → sumTells (totalAnswer book) ≡ refuses k p d us → Among totalNumbers k
+pub the-numbers-of-a-total : (book : List ℕ) (why : Refusal) (us : List ℕ) → sumTells (totalAnswer book) ≡ refuses why us → Among totalNumbers (why .number)
 the-numbers-of-a-total book = refused-among totalNumbers (total-follows book) (total-numbers book)
 
 -- DEMAND 2. A bundle is accepted with n only if it is n records that keep every rule, and if it is.
-pub accepted-keeps-the-rules : (s : List ℕ) (n : ℕ) → verdictTells (verdictOf s) ≡ answers (n ∷ []) → Good s (recordsOf s) × (length (recordsOf s) ≡ n)
-accepted-keeps-the-rules s n e = accepted-good s n (told-accepted (verdictOf s) n e)
+pub accepted-keeps-the-rules : (bundle : List ℕ) (n : ℕ) → verdictTells (verdictOf bundle) ≡ answers (n ∷ []) → Good bundle (recordsOf bundle) × (length (recordsOf bundle) ≡ n)
+accepted-keeps-the-rules bundle n e = accepted-good bundle n (told-accepted (verdictOf bundle) n e)
 
-pub keeping-the-rules-is-accepted : (s : List ℕ) (R : List Rec) → Good s R → verdictTells (verdictOf s) ≡ answers (length R ∷ [])
+pub keeping-the-rules-is-accepted : (bundle : List ℕ) (R : List Rec) → Good bundle R → verdictTells (verdictOf bundle) ≡ answers (length R ∷ [])
 unfolding verdictTells
-keeping-the-rules-is-accepted s R g = rw (good-accepted s R g)
+keeping-the-rules-is-accepted bundle R g = rw (good-accepted bundle R g)
+
+-- The rows of each table stand one behind the other from position 1 to its length. In every table the transferor, and in every table of offers the
+-- offer and the railway, stand where CO has them.
+pub the-rows-of-each-table-stand : every (λ (b : Table). standFrom 1 (b .rows)) tables ≡ true
+the-rows-of-each-table-stand = rows-stand
+
+pub the-transferor-stands-alike : (t : ℕ) (body : List ℕ) → t < tableCount → bytesOf t 1 body ≡ transferorOf body
+the-transferor-stands-alike = transferor-stands
+
+pub the-offer-stands-alike : (t : ℕ) → ofOffers t ≡ true → (body : List ℕ) → bytesOf t 2 body ≡ offerOf body
+the-offer-stands-alike = offer-stands
+
+pub the-railway-stands-alike : (t : ℕ) → ofOffers t ≡ true → (body : List ℕ) → bytesOf t 3 body ≡ railwayOf body
+the-railway-stands-alike = railway-stands
 
 -- No second answer meets the contract of `verdict`.
-pub one-verdict : (s : List ℕ) (a b : Judgement) → a ≡ verdictOf s → b ≡ verdictOf s → a ≡ b
-one-verdict s a b e f = e ∙ sym f
+pub one-verdict : (bundle : List ℕ) (a b : Judgement) → a ≡ verdictOf bundle → b ≡ verdictOf bundle → a ≡ b
+one-verdict bundle a b e f = e ∙ sym f
 
 -- In a bundle that keeps the rules a leg's record is the only one of its key, for its railway or for all railways; and the one for all is
 -- taken only where there is none of the railway's own.
-pub only-one-record-of-a-railway : (s : List ℕ) (R : List Rec) → Good s R → (t offer railway code i j : ℕ) → ForLegs t → i < length R → j < length R
-    → isOwn t offer railway code (recordAt R i) ≡ true → isOwn t offer railway code (recordAt R j) ≡ true → i ≡ j
+pub only-one-record-of-a-railway : (bundle : List ℕ) (R : List Rec) → Good bundle R → (w : Wanted) → forLegs (w .table) ≡ true → (i j : ℕ) → i < length R → j < length R
+    → isOwn w (recordAt R i) ≡ true → isOwn w (recordAt R j) ≡ true → i ≡ j
 only-one-record-of-a-railway = only-own
 
-pub only-one-record-for-all-railways : (s : List ℕ) (R : List Rec) → Good s R → (t offer code i j : ℕ) → ForLegs t → i < length R → j < length R
-    → isGeneral t offer code (recordAt R i) ≡ true → isGeneral t offer code (recordAt R j) ≡ true → i ≡ j
+pub only-one-record-for-all-railways : (bundle : List ℕ) (R : List Rec) → Good bundle R → (w : Wanted) → forLegs (w .table) ≡ true → (i j : ℕ) → i < length R → j < length R
+    → isGeneral w (recordAt R i) ≡ true → isGeneral w (recordAt R j) ≡ true → i ≡ j
 only-one-record-for-all-railways = only-general
 
-pub the-record-chosen : (R : List Rec) (t offer railway code day i : ℕ) → choiceOf R t offer railway code day ≡ At i
-    → (isOwn t offer railway code (recordAt R i) ≡ true)
-    ⊎ ((isGeneral t offer code (recordAt R i) ≡ true) × ((k : ℕ) → k < length R → ownAt R t offer railway code k ≡ false))
+-- Such tables are CO and AR, and ME.
+pub the-tables-of-a-leg : (forLegs CO ≡ true) × (forLegs AR ≡ true) × (forLegs ME ≡ true)
+unfolding forLegs ofOffers any every tableAt tables
+the-tables-of-a-leg = (refl, refl, refl)
+
+pub the-record-chosen : (R : List Rec) (w : Wanted) (i : ℕ) → choiceOf R w ≡ At i
+    → (isOwn w (recordAt R i) ≡ true) ⊎ ((isGeneral w (recordAt R i) ≡ true) × ((k : ℕ) → k < length R → isOwn w (recordAt R k) ≡ false))
 the-record-chosen = chosen-is-own-or-general
 
 -- Each part is the steps of the records chosen, each taken exactly and rounded once, times the persons.
-pub a-part-is-its-steps : (R : List Rec) (q : Question) (k : ℕ) → k < q .count → let leg = getD (legsOf q) k noLeg in
-    getD (partsOf R q) k 0 ≡ reduceAll (leg .fare) (stepsOf R q leg (chosenBody R (conditionsFor R q leg))) * q .persons
+pub a-part-is-its-steps : (R : List Rec) (q : Question) (k : ℕ) → k < q .count → let leg = getD (legsOf q) k noLeg in let c = chosen R q leg in
+    getD (partsOf R q) k 0 ≡ reduceAll (leg .fare) (stepsOf (bodyOf R (c .conditions)) (bodies R (c .card))) * q .persons
 a-part-is-its-steps = each-part
 
 -- In a bundle that keeps the rules each step is rounded as its record says: the CO's, and the card's.
-pub the-conditions-round-as-their-record-says : (s : List ℕ) (R : List Rec) → Good s R → (i : ℕ) → i < length R → recordAt R i .kind ≡ CO → (amount : ℕ)
+pub the-conditions-round-as-their-record-says : (bundle : List ℕ) (R : List Rec) → Good bundle R → (i : ℕ) → i < length R → recordAt R i .table ≡ CO → (amount : ℕ)
     → let g = conditionsGrant (recordAt R i .body) in
     (g .discount ≤ unit) × IsRounded (g .mode) (amount * (unit - g .discount)) (g .factor) (reduceBy amount g)
-the-conditions-round-as-their-record-says s R good i l e amount =
+the-conditions-round-as-their-record-says bundle R good i l e amount =
     let g = conditions-lawful (recordAt R i) (good .fields i l) e in
     (g .at-most-whole, rounded-as-said _ g amount)
 
-pub a-card-rounds-as-its-record-says : (s : List ℕ) (R : List Rec) → Good s R → (i : ℕ) → i < length R → recordAt R i .kind ≡ AR → (amount : ℕ)
+pub a-card-rounds-as-its-record-says : (bundle : List ℕ) (R : List Rec) → Good bundle R → (i : ℕ) → i < length R → recordAt R i .table ≡ AR → (amount : ℕ)
     → let g = cardGrants (recordAt R i .body) in
     (g .discount ≤ unit) × IsRounded (g .mode) (amount * (unit - g .discount)) (g .factor) (reduceBy amount g)
-a-card-rounds-as-its-record-says s R good i l e amount =
+a-card-rounds-as-its-record-says bundle R good i l e amount =
     let g = card-lawful (recordAt R i) (good .fields i l) e in
     (g .at-most-whole, rounded-as-said _ g amount)
 
@@ -153,26 +176,26 @@ pub only-one-is-nearest : {n f r s : ℕ} → IsNear n f r → IsNear n f s → 
 only-one-is-nearest = near-only
 
 -- A discount of 100,000 leaves nothing, whatever the amount and the rounding.
-pub a-whole-discount-leaves-nothing : (a : ℕ) (r : Reduction) → r .discount ≡ unit → reduceBy a r ≡ 0
+pub a-whole-discount-leaves-nothing : (a : ℕ) (g : Grant) → g .discount ≡ unit → reduceBy a g ≡ 0
 a-whole-discount-leaves-nothing = whole-discount
 
 -- A part is at most 99,197,505 cents, so that number 16 is never met.
-pub a-part-is-bounded : (R : List Rec) (q : Question) (leg : Leg) (co : List ℕ) → leg .fare ≤ 999999 → q .persons ≤ 99 → partBy R q leg co ≤ 99197505
+pub a-part-is-bounded : (R : List Rec) (q : Question) (leg : Leg) → leg .fare ≤ 999999 → q .persons ≤ 99 → partOf R q leg ≤ 99197505
 a-part-is-bounded = leg-small
 
 pub sixteen-is-never-met : (R : List Rec) (q : Question) → inLimits q ≡ true → ltb mostFare (sum (partsOf R q)) ≡ false
 sixteen-is-never-met = never-sixteen
 
 -- No second answer meets the contract of `fare`.
-pub one-fare : (s : List ℕ) (q : Question) (a b : Quote) → a ≡ fareOf s q → b ≡ fareOf s q → a ≡ b
-one-fare s q a b e f = e ∙ sym f
+pub one-fare : (bundle : List ℕ) (q : Question) (a b : Quote) → a ≡ fareOf bundle q → b ≡ fareOf bundle q → a ≡ b
+one-fare bundle q a b e f = e ∙ sym f
 
 -- DEMAND 3. After any sales and cancellations from the empty book, each sale with any bundle: the book is sound,
 pub the-book-stays-sound : (ops : List Op) → soundWords (after emptyBook ops) ≡ true
 the-book-stays-sound = always-sound
 
 -- every railway is owed what the history alone tells, and so are all together,
-pub a-balance-is-what-the-history-tells : (ops : List Op) (railway : ℕ) → between 1 9999 railway ≡ true
+pub a-balance-is-what-the-history-tells : (ops : List Op) (railway : ℕ) → isRailway railway ≡ true
     → sumTells (balanceAnswer (after emptyBook ops) railway) ≡ answers (owed (ofRailway railway) [] ops ∷ [])
 unfolding balanceAnswer firstFault sumTells
 a-balance-is-what-the-history-tells ops railway h = rw (always-sound ops, h, balance-is-owed (ofRailway railway) ops)
@@ -201,7 +224,7 @@ module _ (first : List Op) (n : Number) (bundle : List ℕ) (q : Question) (more
       rw (told-first first n bundle q more (r .0) bundle′ q′ e) (ap (λ x. answers (alreadyBooked ∷ cond (cancelledIn n more) 1 0 ∷ x)) (sym (booked-parts _ _ _ bundle q (r .0)) ∙ r .1))
 
   pub another-question-is-refused : (bundle′ : List ℕ) (q′ : Question) → same (questionWords q) (questionWords q′) ≡ false
-      → receiptTells (saleAnswer now (n .till) (n .sequence) bundle′ q′) ≡ refuses 23 (length (entries (after emptyBook first))) 0 (replicate 10 0)
+      → receiptTells (saleAnswer now (n .till) (n .sequence) bundle′ q′) ≡ refuses (refuse 23 (length (entries (after emptyBook first))) 0) (replicate 10 0)
   unfolding receiptTells outcomeTells
   another-question-is-refused bundle′ q′ e = rw (refused-other first n bundle q more (told-booked _ parts sold .0) bundle′ q′ e)
 

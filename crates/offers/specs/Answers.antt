@@ -8,6 +8,7 @@ use lib.Dec.{eqb}
 use lib.ListN.{replicate}
 use Rattle.common.specs.Lists.{any}
 use Rattle.common.specs.Checks.{Check, AllPass, First}
+use Rattle.common.specs.declared.Refusal.{Refusal}
 use Rattle.bundle.specs.declared.Judgement.{Judgement}
 use Rattle.bundle.specs.declared.Judgement.the-variants.{Accepted, Refused}
 use Rattle.fares.specs.declared.Quote.{Quote}
@@ -19,20 +20,20 @@ use Rattle.sales.specs.declared.Receipt.{Receipt}
 use Rattle.sales.specs.declared.Sum.{Sum}
 use Rattle.sales.specs.declared.Sum.the-variants.{Amount, Refused as NoSum}
 
--- an answer with its values, or a refusal with its number, place and detail, and the values that go with it
+-- an answer with its values, or a refusal (number, place and detail) and the values that go with it
 pub data Told : Type 0 where
   answers : List ℕ → Told
-  refuses : (number place detail : ℕ) → List ℕ → Told
+  refuses : Refusal → List ℕ → Told
 
 -- A VERDICT: the count of the records.
 unfoldable pub verdictTells : Judgement → Told
 verdictTells (Accepted n) = answers (n ∷ [])
-verdictTells (Refused k p d) = refuses k p d (0 ∷ [])
+verdictTells (Refused why) = refuses why (0 ∷ [])
 
 -- A FARE: the fare and its eight parts.
 unfoldable pub pricingTells : Pricing → List ℕ → Told
 pricingTells Priced amounts = answers amounts
-pricingTells (NoFare k p d) amounts = refuses k p d amounts
+pricingTells (NoFare why) amounts = refuses why amounts
 
 unfoldable pub fareTells : Quote → Told
 fareTells r = pricingTells (r .outcome) (r .fare ∷ r .parts)
@@ -58,7 +59,7 @@ outcomeTells Booked parts = answers (booked ∷ 0 ∷ parts)
 outcomeTells (AlreadyBooked status) parts = answers (alreadyBooked ∷ status ∷ parts)
 outcomeTells Cancelled parts = answers (cancelled ∷ 1 ∷ parts)
 outcomeTells AlreadyCancelled parts = answers (alreadyCancelled ∷ 1 ∷ parts)
-outcomeTells (NoEntry k p d) parts = refuses k p d (refused ∷ 0 ∷ parts)
+outcomeTells (NoEntry why) parts = refuses why (refused ∷ 0 ∷ parts)
 
 unfoldable pub receiptTells : Receipt → Told
 receiptTells r = outcomeTells (r .outcome) (r .parts)
@@ -66,13 +67,13 @@ receiptTells r = outcomeTells (r .outcome) (r .parts)
 -- A BALANCE OR THE TOTAL: the amount.
 unfoldable pub sumTells : Sum → Told
 sumTells (Amount n) = answers (n ∷ [])
-sumTells (NoSum k p d) = refuses k p d (0 ∷ [])
+sumTells (NoSum why) = refuses why (0 ∷ [])
 
 -- AN ANSWER FOLLOWS AN ORDER OF CHECKS: it is refused by the first that fails, with all n values zero, and by no other; where none fails it is
 -- answered with the values vs, and with no other.
 pub record Follows (t : Told) (cs : List Check) (n : ℕ) (vs : List ℕ) : Type 0 where
-  pub refused-by : (k p d : ℕ) (us : List ℕ) → t ≡ refuses k p d us → First cs k p d × (us ≡ replicate n 0)
-  pub first-refuses : (k p d : ℕ) → First cs k p d → t ≡ refuses k p d (replicate n 0)
+  pub refused-by : (why : Refusal) (us : List ℕ) → t ≡ refuses why us → First cs why × (us ≡ replicate n 0)
+  pub first-refuses : (why : Refusal) → First cs why → t ≡ refuses why (replicate n 0)
   pub answered-if : (us : List ℕ) → t ≡ answers us → AllPass cs × (us ≡ vs)
   pub passing-answers : AllPass cs → t ≡ answers vs
 
