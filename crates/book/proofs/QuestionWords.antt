@@ -22,7 +22,7 @@ use Rattle.book.specs.Sound.{askedSound}
 
 module _ (q : Question) where
   -- the question as its words say it
-  abbrev kept : Question
+  abbrev pub kept : Question
   kept = record { offer = q .offer; day = q .day; persons = q .persons; card = q .card; count = q .count; legs = upTo (legAt q) 8 }
 
   pub said : questionOf (questionWords q) ≡ kept
@@ -62,8 +62,8 @@ module _ (q : Question) where
       rw (said, l, is-same (questionWords q) (questionWords kept) (sym words-again ∙ ap questionWords said))
 
 -- and words that are sound are those of the question that they say
-pub words-back : (ws : List ℕ) → askedSound ws ≡ true → questionWords (questionOf ws) ≡ ws
-words-back ws e = sym (same-is ws (questionWords (questionOf ws)) (both-true (inLimits (questionOf ws)) (same ws (questionWords (questionOf ws))) e .1))
+pub asked-again : (ws : List ℕ) → askedSound ws ≡ true → questionWords (questionOf ws) ≡ ws
+asked-again ws e = sym (same-is ws (questionWords (questionOf ws)) (both-true (inLimits (questionOf ws)) (same ws (questionWords (questionOf ws))) e .1))
 
 -- AS THEY ARE WRITTEN: the words before the legs, the legs so far, and zeros
 abbrev pub written : Question → ℕ → List ℕ

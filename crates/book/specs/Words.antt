@@ -1,7 +1,7 @@
 -- The sales book as words (document 01, 'The sales book'): the count, and room for 256 entries of 64 words. Words that later requests will need are
 -- there from the first day, and are zero. This is the one table of places: each has its name, and follows from the widths before it.
 -- Assumes nothing.
-use Prim.Native.Nat.{ℕ, _+_, _*_}
+use Prim.Native.Nat.{ℕ, _+_, _-_, _*_}
 use mathlib.Core.Bool.{cond}
 use mathlib.Core.List.{List, [], _∷_, _++_, flatMap}
 use lib.Dec.{ltb}
@@ -21,14 +21,20 @@ dayAt = 1
 abbrev pub cardsAt : ℕ
 cardsAt = 2
 
+abbrev pub cardsWidth : ℕ
+cardsWidth = 4
+
 abbrev pub countAt : ℕ
-countAt = cardsAt + 4
+countAt = cardsAt + cardsWidth
 
 abbrev pub pairsAt : ℕ
 pairsAt = countAt + 1
 
+abbrev pub pairsWidth : ℕ
+pairsWidth = 6 * 2
+
 abbrev pub legsAt : ℕ
-legsAt = pairsAt + 6 * 2
+legsAt = pairsAt + pairsWidth
 
 abbrev pub legWidth : ℕ
 legWidth = 4
@@ -47,11 +53,11 @@ fareAt j = railwayAt j + 1
 
 -- one card, and three that are kept zero
 abbrev pub cardWords : Question → List ℕ
-cardWords q = q .card ∷ replicate 3 0
+cardWords q = q .card ∷ replicate (cardsWidth - 1) 0
 
 -- one pair, of category 0, and five that are kept zero
 abbrev pub pairWords : Question → List ℕ
-pairWords q = 0 ∷ q .persons ∷ replicate 10 0
+pairWords q = 0 ∷ q .persons ∷ replicate (pairsWidth - 2) 0
 
 -- a leg's words, of which two are kept zero
 abbrev pub legWords : Leg → List ℕ

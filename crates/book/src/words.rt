@@ -14,13 +14,17 @@ const DAY: usize = 1;
 
 const CARDS: usize = 2;
 
-const COUNT: usize = CARDS + 4;
+const CARDS_WIDTH: usize = 4;
+
+const COUNT: usize = CARDS + CARDS_WIDTH;
 
 const PAIRS: usize = COUNT + 1;
 
 const PERSONS: usize = PAIRS + 1;
 
-const LEGS: usize = PAIRS + 6 * 2;
+const PAIRS_WIDTH: usize = 6 * 2;
+
+const LEGS: usize = PAIRS + PAIRS_WIDTH;
 
 pub const LEG_WIDTH: usize = 4;
 

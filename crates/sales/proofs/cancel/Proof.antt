@@ -56,4 +56,5 @@ pub cancel-spec : {M : Type 1} → statement M
 cancel-spec =
     tie.close
     (tie.spec
-    (λ c κs. search needs) (λ c. search needs) cast-find find-requires cancel-entry-requires (λ c. search needs) returns (λ c. search needs) returns-2)
+    (λ c κs. search needs) (λ c. search needs) cast-find find-requires cancel-entry-requires (λ c. search needs) returns (λ c. search needs)
+    returns-2)

@@ -14,5 +14,8 @@ returns c =
     c .says .ensures ∙ ap (λ x. same x (questionWords (a .q))) (asked-lent (a .book .now) (a .place))
 
 pub asks-spec : {M : Type 1} → statement M
-asks-spec = tie.close (tie.spec (λ c. search needs) (λ c. search needs) (λ c. search needs) (λ c. search needs) (λ c. search needs) (λ c. search needs)
+asks-spec =
+    tie.close
+    (tie.spec
+    (λ c. search needs) (λ c. search needs) (λ c. search needs) (λ c. search needs) (λ c. search needs) (λ c. search needs)
     (λ c. search needs) (λ c. search needs) (λ c κs. search needs) returns)

@@ -5,38 +5,49 @@ use mathlib.Core.Path.{_≡_, _∙_, ap}
 use mathlib.Core.Bool.{true, and-true}
 use native.Mathlib.Omega.{arith}
 use lib.Dec.{leb}
-use lib.ListN.{getD, take, drop}
+use lib.ListN.{getD, drop}
 use borrow.Author.Needs.{needs}
 use borrow.Author.Tests.{le-leb, lt-leb}
 use Rattle.common.specs.Lists.{every}
 use Rattle.common.proofs.Tests.{fails, holds}
 use Rattle.fares.specs.Reductions.{partBound}
-use Rattle.book.specs.Words.{questionWidth, questionOf, countAt, askedAt, partsAt, tillAt, sequenceAt}
+use Rattle.book.specs.Words.{Entry, countAt, askedAt, sequenceAt, questionOf, entryOf}
 use Rattle.book.specs.Sound.{isZero, numberInLimits, askedSound, entrySound}
 use Rattle.book.proofs.EntryWords.{count-at, unused-parts}
 use Rattle.book.proofs.SoundBook.{few-legs}
 use Rattle.book.proofs.sound.entry_sound.Statement.{statement}
 use Rattle.book.proofs.sound.entry_sound.Tie as tie
 
+-- the entry, from the places behind each test
+abbrev past-number : tie.Else1 → Entry
+past-number c = entryOf (c .before .before .before .before .before .args .words .now)
+
+abbrev past-asked : tie.Else2 → Entry
+past-asked c = past-number (c .before .before .before)
+
+abbrev past-bounded : tie.Else3 → Entry
+past-bounded c = past-asked (c .before .before .before)
+
 -- what was shown on the way
-number-in : (c : tie.Else1) → numberInLimits (getD (c .before .before .before .before .before .args .words .now) tillAt 0) (getD (c .before .before .before .before .before .args .words .now) sequenceAt 0) ≡ true
+number-in : (c : tie.Else1) → numberInLimits (past-number c .till) (past-number c .sequence) ≡ true
 number-in c = holds (c .before .is-number .result) (c .if1 .left) (c .before .is-number .ensures)
 
-asked-in : (c : tie.Else2) → askedSound (take questionWidth (drop askedAt (c .before .before .before .before .before .before .before .before .args .words .now))) ≡ true
+asked-in : (c : tie.Else2) → askedSound (past-asked c .asked) ≡ true
 asked-in c = holds (c .before .asked-sound .result) (c .if2 .left) (c .before .asked-sound .ensures)
 
-bounded-in : (c : tie.Else3) → every (λ p. leb p partBound) (take 8 (drop partsAt (c .before .before .before .before .before .before .before .before .before .before .before .args .words .now))) ≡ true
+bounded-in : (c : tie.Else3) → every (λ p. leb p partBound) (past-bounded c .parts) ≡ true
 bounded-in c = holds (c .before .all-bounded .result) (c .if3 .left) (c .before .all-bounded .ensures)
 
 few : (c : tie.Else2) → getD (c .before .before .before .before .before .before .before .before .args .words .now) (askedAt + countAt) 0 ≤ 8
-few c = rw (count-at (c .before .before .before .before .before .before .before .before .args .words .now)) at (few-legs (take questionWidth (drop askedAt (c .before .before .before .before .before .before .before .before .args .words .now))) (asked-in c))
+few c = rw (count-at (c .before .before .before .before .before .before .before .before .args .words .now)) at (few-legs (past-asked c .asked) (asked-in c))
 
-unused : (c : tie.After-all-zero) → let w = c .before .before .before .before .before .before .before .before .before .before .before .before .before .before .args .words .now in c .all-zero .result ≡ every isZero (drop (questionOf (take questionWidth (drop askedAt w)) .count) (take 8 (drop partsAt w)))
+unused : (c : tie.After-all-zero) → let e = past-bounded (c .before .before .before) in c .all-zero .result ≡ every isZero (drop (questionOf (e .asked) .count) (e .parts))
 unused c =
-    let w = c .before .before .before .before .before .before .before .before .before .before .before .before .before .before .args .words .now in
-    c .all-zero .ensures ∙ rw (count-at w) (ap (every isZero) (unused-parts w (getD w (askedAt + countAt) 0) (few (c .before .before .before .before .before .before))))
+    let a = c .before .before .before .before .before .before in
+    let w = a .before .before .before .before .before .before .before .before .args .words .now in
+    c .all-zero .ensures ∙ rw (count-at w) (ap (every isZero) (unused-parts w (getD w (askedAt + countAt) 0) (few a)))
 
-zero-in : (c : tie.Else4) → let w = c .before .before .before .before .before .before .before .before .before .before .before .before .before .before .before .args .words .now in every isZero (drop (questionOf (take questionWidth (drop askedAt w)) .count) (take 8 (drop partsAt w))) ≡ true
+zero-in : (c : tie.Else4) → let e = past-bounded (c .before .before .before .before) in every isZero (drop (questionOf (e .asked) .count) (e .parts)) ≡ true
 zero-in c = holds (c .before .all-zero .result) (c .if4 .left) (unused (c .before))
 
 returns : tie.Need-returns

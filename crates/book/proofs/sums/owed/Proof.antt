@@ -62,8 +62,8 @@ pub owed-spec : {M : Type 1} → statement M
 owed-spec =
     tie.close
     (tie.spec
-    Inv-loop μ-loop (λ c. omega (arith, sound (c .before .before) .long)) (λ c. omega (arith, c .before .shared-slice-known .given 0)) loop-holds
-    (λ c. omega (arith, few (c .before))) (λ c. omega (arith, few (c .before))) (λ c. omega (arith, few (c .before)))
+    Inv-loop μ-loop (λ c. omega (arith, sound (c .before .before) .long)) (λ c. omega (arith, c .before .shared-slice-known .given 0))
+    loop-holds (λ c. omega (arith, few (c .before))) (λ c. omega (arith, few (c .before))) (λ c. omega (arith, few (c .before)))
     (λ c. omega (arith, few (c .before))) (λ c. omega arith) (λ c. search needs) part-entry-owed-end entry-owed-requires
     (λ c. omega (arith, few (c .before .before .before), turned c .0)) (λ c. omega (arith, few (c .before .before .before)))
     (λ c. omega arith) loop-again returns)

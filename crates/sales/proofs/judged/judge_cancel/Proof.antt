@@ -56,9 +56,6 @@ returns-2 c = let f = c .before in c .refused2 .ensures ∙ sym (cancel-no-numbe
 cast-find : tie.Need-cast-find
 cast-find c = omega (arith, fits-word (start c .args .till) (start c .args .sequence) (number c))
 
-find-requires : tie.Need-find-requires
-find-requires c κs = omega (arith, known c .long, known c .few)
-
 returns-3 : tie.Need-returns-3
 returns-3 c =
     let k = c .before .before in
@@ -89,5 +86,6 @@ pub judge-cancel-spec : {M : Type 1} → statement M
 judge-cancel-spec =
     tie.close
     (tie.spec
-    (λ c κs. search needs) (λ c κs. search needs) returns (λ c κs. search needs) (λ c κs. search needs) returns-2 cast-find find-requires
-    (λ c κs. search needs) (λ c κs. search needs) returns-3 parts-of-requires status-of-requires returns-4 returns-5)
+    (λ c κs. search needs) (λ c κs. search needs) returns (λ c κs. search needs) (λ c κs. search needs) returns-2 cast-find
+    (λ c κs. omega (arith, known c .long, known c .few)) (λ c κs. search needs) (λ c κs. search needs) returns-3 parts-of-requires
+    status-of-requires returns-4 returns-5)

@@ -80,5 +80,5 @@ pub judge-sale-spec : {M : Type 1} → statement M
 judge-sale-spec =
     tie.close
     (tie.spec
-    (λ c κs. search needs) (λ c κs. search needs) returns (λ c κs. search needs) (λ c κs. search needs) returns-2 (λ c κs. search needs) cast-find
-    find-requires sold-again-requires returns-3 (λ c κs. search needs) returns-4 (λ c κs. search needs) returns-5)
+    (λ c κs. search needs) (λ c κs. search needs) returns (λ c κs. search needs) (λ c κs. search needs) returns-2 (λ c κs. search needs)
+    cast-find find-requires sold-again-requires returns-3 (λ c κs. search needs) returns-4 (λ c κs. search needs) returns-5)

@@ -25,6 +25,4 @@ returns-2 c =
     ∙ sym (again-same (entryAt (a .book .now) (a .place)) (a .place) (a .q) (holds (f .asks .result) (e .if1 .left) (f .asks .ensures)))
 
 pub sold-again-spec : {M : Type 1} → statement M
-sold-again-spec =
-    tie.close
-    (tie.spec (λ c κs. search needs) (λ c κs. search needs) returns (λ c κs. search needs) (λ c κs. search needs) returns-2)
+sold-again-spec = tie.close (tie.spec (λ c κs. search needs) (λ c κs. search needs) returns (λ c κs. search needs) (λ c κs. search needs) returns-2)
