@@ -71,10 +71,10 @@ fn flatten_judgement(judgement: Judgement) -> JudgementReply
             detail: 0,
             records: records as u64,
         },
-        Judgement::Refused(number, place, detail) => JudgementReply {
-            number: number as u64,
-            place: place as u64,
-            detail: detail as u64,
+        Judgement::Refused(why) => JudgementReply {
+            number: why.number as u64,
+            place: why.place as u64,
+            detail: why.detail as u64,
             records: 0,
         },
     }
@@ -94,10 +94,10 @@ fn flatten_quote(quote: Quote) -> QuoteReply
             fare,
             parts,
         },
-        Pricing::Refused(number, place, detail) => QuoteReply {
-            number: number as u64,
-            place: place as u64,
-            detail: detail as u64,
+        Pricing::Refused(why) => QuoteReply {
+            number: why.number as u64,
+            place: why.place as u64,
+            detail: why.detail as u64,
             fare,
             parts,
         },
@@ -127,10 +127,10 @@ fn flatten_receipt(receipt: Receipt) -> ReceiptReply
         Outcome::AlreadyBooked(status) => answered(ALREADY_BOOKED, status, parts),
         Outcome::Cancelled => answered(CANCELLED, 1, parts),
         Outcome::AlreadyCancelled => answered(ALREADY_CANCELLED, 1, parts),
-        Outcome::Refused(number, place, detail) => ReceiptReply {
-            number: number as u64,
-            place: place as u64,
-            detail: detail as u64,
+        Outcome::Refused(why) => ReceiptReply {
+            number: why.number as u64,
+            place: why.place as u64,
+            detail: why.detail as u64,
             outcome: REFUSED,
             cancelled: 0,
             parts,
@@ -148,10 +148,10 @@ fn flatten_sum(sum: Sum) -> SumReply
             detail: 0,
             amount,
         },
-        Sum::Refused(number, place, detail) => SumReply {
-            number: number as u64,
-            place: place as u64,
-            detail: detail as u64,
+        Sum::Refused(why) => SumReply {
+            number: why.number as u64,
+            place: why.place as u64,
+            detail: why.detail as u64,
             amount: 0,
         },
     }

@@ -7,8 +7,7 @@ use Rattle.edge.specs.Replies.{sumReply}
 use Rattle.edge.proofs.offers_balance.Statement.{statement}
 use Rattle.edge.proofs.offers_balance.Tie as tie
 
-returns : tie.Need-returns
-returns c = c .flatten-sum .ensures ∙ ap (λ a. sumReply (sumTells a)) (c .before .balance .ensures)
-
 pub offers-balance-spec : {M : Type 1} → statement M
-offers-balance-spec = tie.close (tie.spec (λ c κs. search needs) (λ c κs. search needs) returns)
+offers-balance-spec =
+    tie.close (tie.spec
+    (λ c κs. search needs) (λ c κs. search needs) (λ c. c .flatten-sum .ensures ∙ ap (λ a. sumReply (sumTells a)) (c .before .balance .ensures)))

@@ -7,8 +7,7 @@ use Rattle.edge.specs.Replies.{quoteReply}
 use Rattle.edge.proofs.offers_fare.Statement.{statement}
 use Rattle.edge.proofs.offers_fare.Tie as tie
 
-returns : tie.Need-returns
-returns c = c .flatten-quote .ensures ∙ ap (λ a. quoteReply (fareTells a)) (c .before .fare .ensures)
-
 pub offers-fare-spec : {M : Type 1} → statement M
-offers-fare-spec = tie.close (tie.spec (λ c κs. search needs) (λ c κs. search needs) returns)
+offers-fare-spec =
+    tie.close (tie.spec
+    (λ c κs. search needs) (λ c κs. search needs) (λ c. c .flatten-quote .ensures ∙ ap (λ a. quoteReply (fareTells a)) (c .before .fare .ensures)))

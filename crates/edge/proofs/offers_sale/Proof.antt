@@ -14,4 +14,5 @@ returns c = (
 )
 
 pub offers-sale-spec : {M : Type 1} → statement M
-offers-sale-spec = tie.close (tie.spec (λ c κs. search needs) (λ c κs. search needs) (λ c. search needs) returns)
+offers-sale-spec =
+    tie.close (tie.spec (λ c κs. search needs) (λ c κs. search needs) (λ c. search needs) returns)

@@ -7,8 +7,8 @@ use Rattle.edge.specs.Replies.{judgementReply}
 use Rattle.edge.proofs.offers_verdict.Statement.{statement}
 use Rattle.edge.proofs.offers_verdict.Tie as tie
 
-returns : tie.Need-returns
-returns c = c .flatten-judgement .ensures ∙ ap (λ a. judgementReply (verdictTells a)) (c .before .verdict .ensures)
-
 pub offers-verdict-spec : {M : Type 1} → statement M
-offers-verdict-spec = tie.close (tie.spec (λ c κs. search needs) (λ c κs. search needs) returns)
+offers-verdict-spec =
+    tie.close (tie.spec
+    (λ c κs. search needs) (λ c κs. search needs)
+    (λ c. c .flatten-judgement .ensures ∙ ap (λ a. judgementReply (verdictTells a)) (c .before .verdict .ensures)))
