@@ -34,10 +34,13 @@ ghost use Rattle.fares.specs.Fare.{fareOf};
 ghost use Rattle.sales.specs.Sales.{saleAnswer, saleWords, cancelAnswer, cancelWords};
 ghost use Rattle.sales.specs.Balances.{balanceAnswer, totalAnswer};
 
-// The verdict on a bundle: accepted with the number of its records, or the first fault by number, place and detail.
+// Why a call is refused: number, place and detail.
+pub use common::Refusal;
+
+// The verdict on a bundle: accepted with the number of its records, or refused by the first fault.
 pub use bundle::Judgement;
 
-// What is asked of a fare, and what is answered: the parts and their sum, or number, place and detail with all amounts zero.
+// What is asked of a fare, and what is answered: the parts and their sum, or a refusal with all amounts zero.
 pub use fares::Leg;
 pub use fares::Pricing;
 pub use fares::Question;

@@ -3,6 +3,7 @@ use offers::Leg;
 use offers::Outcome;
 use offers::Question;
 use offers::Receipt;
+use offers::Refusal;
 use offers::Sum;
 
 // One ticket for three persons over two railways.
@@ -38,11 +39,11 @@ fn write_number(n: u64) {
     io::print_decimal(1, n);
 }
 
-fn write_refusal(number: u8, place: usize, detail: usize) {
+fn write_refusal(why: Refusal) {
     say(b"NO");
-    write_number(number as u64);
-    write_number(place as u64);
-    write_number(detail as u64);
+    write_number(why.number as u64);
+    write_number(why.place as u64);
+    write_number(why.detail as u64);
 }
 
 fn write_outcome(outcome: Outcome) {
@@ -56,16 +57,16 @@ fn write_outcome(outcome: Outcome) {
         }
         Outcome::Cancelled => say(b"cancelled"),
         Outcome::AlreadyCancelled => say(b"already cancelled"),
-        Outcome::Refused(number, place, detail) => write_refusal(number, place, detail),
+        Outcome::Refused(why) => write_refusal(why),
     }
 }
 
 fn write_sum(sum: Sum) {
     match sum {
         Sum::Amount(cents) => write_number(cents),
-        Sum::Refused(number, place, detail) => {
+        Sum::Refused(why) => {
             say(b" ");
-            write_refusal(number, place, detail);
+            write_refusal(why);
         }
     }
 }
