@@ -7,7 +7,7 @@ use mathlib.Core.List.{List, [], _∷_}
 use native.Mathlib.Omega.{arith}
 use native.Mathlib.Nat.{add-zero}
 use native.Mathlib.Numerals.{add-one}
-use lib.ListN.{length, getD, drop, length-drop, drop-of-length-le}
+use lib.ListN.{length, getD, drop, length-drop}
 use lib.Seq.{drop-drop, getD-drop}
 use Rattle.bundle.specs.Records.{rec, noRec, stepOf, between, recordsFrom, restFrom, recordsOf, restOf}
 use Rattle.bundle.specs.Helpers.{moved, stepAt, placesFrom, placesOf, bodyAt}
@@ -16,7 +16,7 @@ use denote.Enum.Declared.{tagOf}
 use Rattle.bundle.proofs.walk.Step.{the-type}
 use Rattle.bundle.specs.declared.walk.Step.{Step}
 use Rattle.bundle.specs.declared.walk.Step.the-variants.{Unknown, Short, Whole}
-use Rattle.bundle.proofs.Steps.{Lies, whole-lies, nothing-there}
+use Rattle.bundle.proofs.Steps.{Lies, whole-lies}
 
 -- at the byte p of the bundle s the record starts that is counted j, or the records end
 pub record Here (s : List ℕ) (p j : ℕ) : Type 0 where
@@ -213,10 +213,6 @@ module _ (s : List ℕ) (p : ℕ) where
   pub step-body : {v : Step} {t start next : ℕ} → v ≡ stepAt s p → v ≡ Whole t start next → between start next s ≡ bodyAt s p
   unfolding bodyAt
   step-body q e = rw (sym q ∙ e)
-
--- past the last byte no record starts
-pub at-end : (s : List ℕ) (p : ℕ) → length s ≤ p → Over (drop p s)
-at-end s p l = unknown (rw (drop-of-length-le s l) nothing-there)
 
 -- EVERY RECORD HAS ITS PLACE
 module _ (s : List ℕ) where

@@ -40,13 +40,6 @@ pub rows-stand : every (λ (b : Table). standFrom 1 (b .rows)) tables ≡ true
 unfolding tables every standFrom
 rows-stand = refl
 
--- no record is longer than a memo
-pub length-most : (t : ℕ) → lengthOf t ≤ 1231
-unfolding least lengthOf endOf tableAt tables
-length-most t =
-    ⊎-elim (λ h. leb-true (lengthOf t) 1231 (computed (λ u. leb (lengthOf u) 1231) tableCount refl t h))
-    (λ h. rw (no-table t h) (omega arith)) (side t tableCount)
-
 -- MARKS have two bytes and differ: the first table that has the mark of t is t
 pub mark-length : (t : ℕ) → t < tableCount → length (tableAt t .mark) ≡ 2
 unfolding least tableAt tables
