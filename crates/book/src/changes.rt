@@ -6,6 +6,8 @@ ghost use lib.Seq.{paste};
 ghost use Rattle.book.specs.Words.{capacity, width, bookLength, startOf, countOf, booking};
 ghost use Rattle.book.specs.Changes.{added, cancelledAt};
 use super::words::ASKED;
+use super::words::ENTRIES;
+use super::words::ENTRY_COUNT;
 use super::words::PARTS;
 use super::words::STATUS;
 use super::words::WIDTH;
@@ -28,8 +30,8 @@ pub fn append(book: &mut [u32], till: u32, sequence: u32, q: Question, parts: [u
     requires { ⌜ (length (now book) ≡ bookLength) × (countOf (now book) < capacity) ⌝ }
     ensures { λ _. ⌜ now (book .exit) ≡ added (now (book .entry)) (booking till sequence q parts) ⌝ }
 {
-    let count = book[0] as usize;
-    let at = 1 + count * WIDTH;
+    let count = book[ENTRY_COUNT] as usize;
+    let at = ENTRIES + count * WIDTH;
     let number = [till, sequence];
     let asked = super::words::question_words(q);
     let rest = [0u32; 3];
@@ -37,7 +39,7 @@ pub fn append(book: &mut [u32], till: u32, sequence: u32, q: Question, parts: [u
     put(book, at + ASKED, &asked);
     put(book, at + PARTS, &parts);
     put(book, at + STATUS, &rest);
-    book[0] = (count + 1) as u32;
+    book[ENTRY_COUNT] = (count + 1) as u32;
 }
 
 // Cancels an entry.
@@ -45,6 +47,6 @@ pub fn cancel_entry(book: &mut [u32], place: usize)
     requires { ⌜ startOf place + width ≤ length (now book) ⌝ }
     ensures { λ _. ⌜ now (book .exit) ≡ cancelledAt (now (book .entry)) place ⌝ }
 {
-    let at = 1 + place * WIDTH;
+    let at = ENTRIES + place * WIDTH;
     book[at + STATUS] = 1;
 }

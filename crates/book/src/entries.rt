@@ -6,6 +6,8 @@ ghost use Rattle.common.specs.Lists.{same};
 ghost use Rattle.book.specs.Words.{width, startOf, countOf, entryAt, entries, questionWords};
 ghost use Rattle.book.specs.Sound.{heldAt};
 use super::words::ASKED;
+use super::words::ENTRIES;
+use super::words::ENTRY_COUNT;
 use super::words::PARTS;
 use super::words::STATUS;
 use super::words::WIDTH;
@@ -18,7 +20,7 @@ pub fn count(book: &[u32]) -> usize
     if book.len() == 0 {
         return 0;
     }
-    book[0] as usize
+    book[ENTRY_COUNT] as usize
 }
 
 // The entry that has a number, the count where none has it.
@@ -34,7 +36,7 @@ pub fn asks(book: &[u32], place: usize, q: Question) -> bool
     requires { ⌜ startOf place + width ≤ length (now book) ⌝ }
     ensures { λ r. ⌜ r ≡ same (entryAt (now (book .entry)) place .asked) (questionWords q) ⌝ }
 {
-    let at = 1 + place * WIDTH;
+    let at = ENTRIES + place * WIDTH;
     let asked = at + ASKED;
     let parts = at + PARTS;
     super::words::says(&book[asked..parts], q)
@@ -45,7 +47,7 @@ pub fn parts_of(book: &[u32], place: usize) -> [u32; 8]
     requires { ⌜ startOf place + width ≤ length (now book) ⌝ }
     ensures { λ r. ⌜ r ≡ entryAt (now (book .entry)) place .parts ⌝ }
 {
-    let at = 1 + place * WIDTH;
+    let at = ENTRIES + place * WIDTH;
     super::words::parts_in(book, at + PARTS)
 }
 
@@ -54,6 +56,6 @@ pub fn status_of(book: &[u32], place: usize) -> u32
     requires { ⌜ startOf place + width ≤ length (now book) ⌝ }
     ensures { λ r. ⌜ r ≡ entryAt (now (book .entry)) place .status ⌝ }
 {
-    let at = 1 + place * WIDTH;
+    let at = ENTRIES + place * WIDTH;
     book[at + STATUS]
 }

@@ -6,6 +6,7 @@ ghost use Rattle.common.specs.Lists.{upTo};
 ghost use Rattle.book.specs.Words.{capacity, width, sequenceAt, startOf, entryAt};
 ghost use Rattle.book.specs.Sound.{numbersDiffer};
 ghost use Rattle.book.specs.Helpers.{heldBefore, rank, RanksUpTo, repeatsEarlier};
+use super::words::ENTRIES;
 use super::words::SEQUENCE;
 use super::words::WIDTH;
 
@@ -15,7 +16,7 @@ pub fn find_before(book: &[u32], n: usize, till: u32, sequence: u32) -> usize
     ensures { λ r. ⌜ r ≡ heldBefore (now (book .entry)) n till sequence ⌝ }
 {
     let mut i = 0;
-    let mut at = 1;
+    let mut at = ENTRIES;
     while i < n {
         // the sequence first: it is the one that tells the entries of a till apart
         if book[at + SEQUENCE] == sequence {
@@ -42,7 +43,7 @@ fn repeats_earlier(book: &[u32], i: usize, top: u64) -> bool
     requires { ⌜ (i < capacity) × (startOf i + width ≤ length (now book)) × RanksUpTo (now book) i top ⌝ }
     ensures { λ r. ⌜ r ≡ repeatsEarlier (now (book .entry)) i ⌝ }
 {
-    let at = 1 + i * WIDTH;
+    let at = ENTRIES + i * WIDTH;
     if top < rank_at(book, at) {
         return false;
     }
@@ -59,7 +60,7 @@ pub fn numbers_differ(book: &[u32], n: usize) -> bool
         if repeats_earlier(book, i, top) {
             return false;
         }
-        let rank = rank_at(book, 1 + i * WIDTH);
+        let rank = rank_at(book, ENTRIES + i * WIDTH);
         if top < rank {
             top = rank;
         }

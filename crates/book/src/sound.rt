@@ -9,6 +9,8 @@ ghost use Rattle.book.specs.Words.{capacity, bookLength, startOf, width,
 ghost use Rattle.book.specs.Sound.{isZero, numberInLimits, askedSound, entrySound, soundWords};
 use super::words::ASKED;
 use super::words::CAPACITY;
+use super::words::ENTRIES;
+use super::words::ENTRY_COUNT;
 use super::words::LEG_COUNT;
 use super::words::LENGTH;
 use super::words::PARTS;
@@ -103,7 +105,7 @@ fn entries_sound(book: &[u32], n: usize) -> bool
 {
     let mut i = 0;
     while i < n {
-        let at = 1 + i * WIDTH;
+        let at = ENTRIES + i * WIDTH;
         let end = at + WIDTH;
         if !entry_sound(&book[at..end]) {
             return false;
@@ -120,7 +122,7 @@ pub fn is_sound(book: &[u32]) -> bool
     if book.len() != LENGTH {
         return false;
     }
-    let count = book[0] as usize;
+    let count = book[ENTRY_COUNT] as usize;
     if CAPACITY < count {
         return false;
     }
@@ -130,6 +132,6 @@ pub fn is_sound(book: &[u32]) -> bool
     if !super::numbers::numbers_differ(book, count) {
         return false;
     }
-    let unused = 1 + count * WIDTH;
+    let unused = ENTRIES + count * WIDTH;
     all_zero(&book[unused..LENGTH])
 }

@@ -7,6 +7,8 @@ ghost use Rattle.book.specs.Words.{width, entryOf, entries};
 ghost use Rattle.book.specs.Sound.{soundWords};
 ghost use Rattle.book.specs.Amounts.{liveAmount, balanceOf};
 ghost use Rattle.book.specs.Helpers.{counted};
+use super::words::ENTRIES;
+use super::words::ENTRY_COUNT;
 use super::words::LEG_WIDTH;
 use super::words::PARTS;
 use super::words::RAILWAYS;
@@ -50,11 +52,11 @@ pub fn owed(book: &[u32], railway: u32) -> u64
     requires { ⌜ soundWords (now book) ≡ true ⌝ }
     ensures { λ r. ⌜ r ≡ balanceOf (counted railway) (entries (now (book .entry))) ⌝ }
 {
-    let count = book[0] as usize;
+    let count = book[ENTRY_COUNT] as usize;
     let mut sum: u64 = 0;
     let mut i = 0;
     while i < count {
-        let at = 1 + i * WIDTH;
+        let at = ENTRIES + i * WIDTH;
         let end = at + WIDTH;
         sum += entry_owed(&book[at..end], railway);
         i += 1;

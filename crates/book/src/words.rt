@@ -50,9 +50,13 @@ pub const SPARE: usize = STATUS + 1;
 pub const WIDTH: usize = SPARE + 2;
 
 // A book: the count, and then the entries.
+pub const ENTRY_COUNT: usize = 0;
+
+pub const ENTRIES: usize = 1;
+
 pub const CAPACITY: usize = 256;
 
-pub const LENGTH: usize = 1 + CAPACITY * WIDTH;
+pub const LENGTH: usize = ENTRIES + CAPACITY * WIDTH;
 
 // Leg j of a question, zeros from the leg count on.
 fn leg_at(q: Question, j: usize) -> Leg
