@@ -16,8 +16,8 @@ use Rattle.common.proofs.Checks.{by-finding, orElse, fault-append}
 use Rattle.layout.specs.Layout.{layout}
 use Rattle.layout.specs.Fields.{transferorOf}
 use Rattle.layout.specs.Rules.{firstBroken, brokenField}
-use Rattle.layout.specs.Helpers.{asRow, firstRow}
-use Rattle.layout.proofs.Tables.{broken-in-table}
+use Rattle.layout.specs.Helpers.{asRow, firstRow, obeysRow}
+use Rattle.layout.proofs.BrokenField.{broken-in-table}
 use Rattle.bundle.specs.Records.{Rec, noRec, stepOf, between, recordsOf, restOf}
 use Rattle.bundle.specs.Keys.{otherTransferor, earlierOf}
 use Rattle.bundle.specs.Links.{links, linkRows, noLink, joins, serves, missingLink}
@@ -38,7 +38,7 @@ first-start s = refl
 
 -- the first field that breaks its rule, from the rows as they were lent
 pub found-field : (t : ℕ) (body : List ℕ) {rows own : List (List ℕ)} {f : ℕ} → rows ≡ layout → own ≡ take (firstRow (t + 1) - firstRow t) (drop (firstRow t) rows)
-    → f ≡ firstBroken (map asRow own) body → f ≡ brokenField t body
+    → f ≡ firstBroken (obeysRow body) (map asRow own) → f ≡ brokenField t body
 found-field t body e o q = rw (q, o, e) (broken-in-table t body)
 
 module _ (s : List ℕ) (p i : ℕ) (h : Here s p i) where

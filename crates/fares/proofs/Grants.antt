@@ -18,7 +18,7 @@ use Rattle.common.proofs.Digits.{within-value}
 use Rattle.layout.specs.Bytes.{byte-blank, byte-plus, byte-minus, byte-0, byte-N, isBlank}
 use Rattle.layout.specs.Layout.{CO, AR, tableAt, tables}
 use Rattle.layout.specs.Fields.{rowWith, rowOf, bytesOf, byteOf, numberIn, grantIn}
-use Rattle.layout.specs.Rules.{isRounding, numberOrBlank, factorRule, ruled, obeysRow}
+use Rattle.layout.specs.Rules.{isRounding, numberOrBlank, factorRule, ruled, keptBeside, keepsRow}
 use Rattle.layout.specs.declared.rows.Row.{Row}
 use Rattle.layout.specs.declared.fields.Grant.{Grant}
 use Rattle.layout.proofs.Tables.{keeps-field}
@@ -79,11 +79,11 @@ unfolding factorRule
 factor-above mode s h n = within-value 1 999 (numberOf s) (rw (ne-eqb mode byte-N n) at h) .0
 
 module _ (r : Rec) (keeps : KeepsRules r) where
-  kept : (t f : ℕ) → r .table ≡ t → any (λ (w : Row). eqb (w .field) f) (tableAt t .rows) ≡ true → obeysRow (rowOf t f) (r .body) ≡ true
+  kept : (t f : ℕ) → r .table ≡ t → any (λ (w : Row). eqb (w .field) f) (tableAt t .rows) ≡ true → keepsRow t (r .body) (rowOf t f) ≡ true
   kept t f e h = keeps-field t f (r .body) (rw (← e) keeps) h
 
   pub conditions-lawful : r .table ≡ CO → Lawful (conditionsGrant (r .body))
-  unfolding any obeysRow ruled grantIn numberIn byteOf bytesOf rowOf rowWith tableAt tables
+  unfolding any keepsRow keptBeside ruled grantIn numberIn byteOf bytesOf rowOf rowWith tableAt tables
   conditions-lawful e =
       record {
         at-most-whole = at-most unit (bytesOf CO 39 (r .body)) _ refl (kept CO 39 e refl);
@@ -92,7 +92,7 @@ module _ (r : Rec) (keeps : KeepsRules r) where
       }
 
   pub card-lawful : r .table ≡ AR → Lawful (cardGrants (r .body))
-  unfolding any obeysRow ruled grantIn numberIn byteOf bytesOf rowOf rowWith tableAt tables
+  unfolding any keepsRow keptBeside ruled grantIn numberIn byteOf bytesOf rowOf rowWith tableAt tables
   card-lawful e =
       record {
         at-most-whole = within-value 0 unit (numberOf (bytesOf AR 5 (r .body))) (kept AR 5 e refl) .1;

@@ -1,3 +1,4 @@
 pub mod Tables
+pub mod BrokenField
 pub mod RowLoops
 pub mod Companies

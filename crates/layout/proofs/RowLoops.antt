@@ -8,19 +8,19 @@ use native.Mathlib.Numerals.{add-one}
 use lib.ListN.{length, getD, drop, drop-of-length-le}
 use lib.Seq.{drop-cons}
 use Rattle.layout.specs.Fields.{rowWith}
-use Rattle.layout.specs.Rules.{obeysRow, firstBroken}
+use Rattle.layout.specs.Rules.{firstBroken}
 use Rattle.layout.specs.Helpers.{asRow}
 use Rattle.layout.specs.declared.rows.Row.{Row}
 
 module _ (rows : List (List ℕ)) (k : ℕ) where
-  pub broken-step : (body : List ℕ) (r : Row) (b : Bool) → k < length rows → r ≡ asRow (getD rows k []) → b ≡ obeysRow r body
-      → firstBroken (map asRow (drop k rows)) body ≡ cond b (firstBroken (map asRow (drop (k + 1) rows)) body) (r .field)
+  pub broken-step : (kept : Row → Bool) (r : Row) (b : Bool) → k < length rows → r ≡ asRow (getD rows k []) → b ≡ kept r
+      → firstBroken kept (map asRow (drop k rows)) ≡ cond b (firstBroken kept (map asRow (drop (k + 1) rows))) (r .field)
   unfolding firstBroken
-  broken-step body r b h e f = rw (f, e, add-one, drop-cons rows k [] h)
+  broken-step kept r b h e f = rw (f, e, add-one, drop-cons rows k [] h)
 
-  pub broken-end : (body : List ℕ) → length rows ≤ k → firstBroken (map asRow (drop k rows)) body ≡ 0
+  pub broken-end : (kept : Row → Bool) → length rows ≤ k → firstBroken kept (map asRow (drop k rows)) ≡ 0
   unfolding firstBroken
-  broken-end body h = rw (drop-of-length-le rows h)
+  broken-end kept h = rw (drop-of-length-le rows h)
 
   pub with-step : (p : Row → Bool) (r : Row) (b : Bool) → k < length rows → r ≡ asRow (getD rows k []) → p r ≡ b
       → rowWith p (map asRow (drop k rows)) ≡ cond b r (rowWith p (map asRow (drop (k + 1) rows)))

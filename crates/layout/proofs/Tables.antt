@@ -1,16 +1,15 @@
 -- What holds of every table. Each fact is one test that antt computes over the list of the tables, and one law that turns it into the fact at a table:
 -- a further block in the layout runs the tests again and changes no law.
 -- Assumes nothing.
-use Prim.Native.Nat.{ℕ, zero, suc, _+_, _-_, _≤_, _<_}
+use Prim.Native.Nat.{ℕ, _+_, _-_, _≤_, _<_}
 use mathlib.Core.Path.{_≡_, refl, ap, _∙_}
 use mathlib.Core.Bool.{Bool, true, false, cond, not, _&&_, _||_}
-use mathlib.Core.List.{List, [], _∷_, _++_, map}
+use mathlib.Core.List.{List, [], _∷_, map}
 use mathlib.Core.Logic.{⊎-elim}
 use native.Mathlib.Omega.{arith}
-use native.Mathlib.Nat.{zero-add, add-zero}
 use lib.Dec.{eqb, leb, ltb}
-use lib.ListN.{length, getD, take, drop, length-map, List·getD-eq-default}
-use lib.Seq.{take-all, take-at, take-nil, drop-append-add, drop-drop}
+use lib.ListN.{length, take, drop, List·getD-eq-default}
+use lib.Seq.{drop-drop}
 use borrow.Author.Tests.{not-true, not-false, eqb-true, leb-true, ltb-true, eq-eqb, ne-eqb}
 use Rattle.common.specs.Least.{least}
 use Rattle.common.specs.Lists.{every, any, same, sum}
@@ -18,11 +17,11 @@ use Rattle.common.proofs.Least.{before}
 use Rattle.common.specs.Digits.{numberOf, valueOf, isWithin}
 use Rattle.common.proofs.Lists.{same-is, same-parts}
 use Rattle.common.proofs.Tests.{never, both-true, side}
-use Rattle.layout.specs.Layout.{CO, NUMBER, FIRST-DAY, LAST-DAY, Table, noTable, tables, tableCount, tableAt, endOf, lengthOf, standFrom, numbers, layoutFrom, layout}
+use Rattle.layout.specs.Layout.{CO, NUMBER, FIRST-DAY, LAST-DAY, Table, noTable, tables, tableCount, tableAt, endOf, lengthOf, standFrom, numbers}
 use Rattle.layout.specs.Fields.{fieldAt, bytesIn, rowWith, rowOf, bytesOf, transferorOf, ofOffers, offerOf, railwayOf, codeOf, codeFits, sameKey, dayRow, hasPeriod, isFlagRow}
 use Rattle.layout.specs.Company.{isCompany}
-use Rattle.layout.specs.Rules.{ruled, obeysRow, firstBroken, brokenField, keepsRules}
-use Rattle.layout.specs.Helpers.{asRow, rowCount, firstRow, noSpan, codeSpan, keyLength}
+use Rattle.layout.specs.Rules.{ruled, keptBeside, keepsRow, firstBroken, brokenField, keepsRules}
+use Rattle.layout.specs.Helpers.{asRow, noSpan, codeSpan, keyLength}
 use Rattle.layout.specs.declared.fields.Span.{Span}
 use Rattle.layout.specs.declared.rows.Row.{Row}
 
@@ -65,7 +64,7 @@ pub transferor-stands : (t : ℕ) (body : List ℕ) → t < tableCount → bytes
 unfolding least same rowOf rowWith tableAt tables transferorOf bytesOf
 transferor-stands t body h = ap (λ r. bytesIn r body) (row-alike 1 t (computed (alike 1) tableCount refl t h))
 
-if-so : (b : Bool) {d : Bool} → b ≡ true → (not b || d) ≡ true → d ≡ true
+pub if-so : (b : Bool) {d : Bool} → b ≡ true → (not b || d) ≡ true → d ≡ true
 if-so b e h = rw e at h
 
 module _ (t : ℕ) (o : ofOffers t ≡ true) where
@@ -199,48 +198,6 @@ pub no-flag-behind : (f : ℕ) → 38 < f → isFlagRow (rowOf CO f) ≡ false
 unfolding rowOf every tableAt tables
 no-flag-behind f h = none-beyond f h (tableAt CO .rows) refl
 
--- THE ROWS OF A TABLE IN THE LAYOUT stand behind those of the tables before it,
-abbrev rowCounts : List Table → ℕ
-rowCounts bs = sum (map (λ (b : Table). length (b .rows)) bs)
-
-in-turn : (u t : ℕ) (bs : List Table)
-    → take (rowCounts (take (t + 1) bs) - rowCounts (take t bs)) (drop (rowCounts (take t bs)) (layoutFrom u bs)) ≡ map (numbers (u + t)) (getD bs t noTable .rows)
-unfolding sum layoutFrom
-in-turn u t [] = rw (take-nil (t + 1), take-nil t)
-in-turn u zero (b ∷ bs) =
-    let n : length (b .rows) + 0 - 0 ≡ length (b .rows) = omega arith in
-    rw (n, add-zero u) (take-at (map (numbers u) (b .rows)) (layoutFrom (u + 1) bs) (length (b .rows)) (length-map (b .rows) (numbers u)))
-in-turn u (suc t) (b ∷ bs) =
-    let l = length (b .rows) in
-    let n = rowCounts (take t bs) in
-    let e : suc t + 1 ≡ suc (t + 1) = omega arith in
-    let m : l + rowCounts (take (t + 1) bs) - (l + n) ≡ rowCounts (take (t + 1) bs) - n = omega arith in
-    let q : u + 1 + t ≡ u + suc t = omega arith in
-    let d : drop (l + n) (map (numbers u) (b .rows) ++ layoutFrom (u + 1) bs) ≡ drop n (layoutFrom (u + 1) bs) =
-    rw (← length-map (b .rows) (numbers u)) (drop-append-add (map (numbers u) (b .rows)) (layoutFrom (u + 1) bs) n) in
-    rw (e, m, d, ← q) (in-turn (u + 1) t bs)
-
-pub all-before : (t : ℕ) → tableCount ≤ t → firstRow t ≡ rowCount
-unfolding firstRow sum tables
-all-before t h = rw (take-all t tables h)
-
-pub in-layout : (t : ℕ) → t < tableCount → (firstRow t ≤ firstRow (t + 1)) × (firstRow (t + 1) ≤ rowCount)
-unfolding least firstRow sum tables
-in-layout t h = (
-  leb-true _ _ (computed (λ u. leb (firstRow u) (firstRow (u + 1))) tableCount refl t h),
-  leb-true _ _ (computed (λ u. leb (firstRow (u + 1)) rowCount) tableCount refl t h),
-)
-
--- so the walk over them finds the first field that breaks its rule.
-named-again : (t : ℕ) (rs : List Row) → map asRow (map (numbers t) rs) ≡ rs
-named-again t [] = refl
-named-again t (r ∷ rs) = ap (r ∷_) (named-again t rs)
-
-pub broken-in-table : (t : ℕ) (body : List ℕ)
-    → firstBroken (map asRow (take (firstRow (t + 1) - firstRow t) (drop (firstRow t) layout))) body ≡ brokenField t body
-unfolding firstRow layout brokenField tableAt
-broken-in-table t body = rw (in-turn 0 t tables, zero-add t, named-again t (getD tables t noTable .rows))
-
 -- A KEPT RECORD keeps the row of each field that its table has
 first-with : (p q : Row → Bool) (rs : List Row) → every q rs ≡ true → any p rs ≡ true → q (rowWith p rs) ≡ true
 unfolding every any rowWith
@@ -253,9 +210,9 @@ first-with p q (r ∷ rs) k h = go (p r) (both-true (q r) (every q rs) k) (first
     go false d f h = f (d .1) h
 
 pub keeps-field : (t f : ℕ) (body : List ℕ) → keepsRules t body ≡ true → any (λ (r : Row). eqb (r .field) f) (tableAt t .rows) ≡ true
-    → obeysRow (rowOf t f) body ≡ true
+    → keepsRow t body (rowOf t f) ≡ true
 unfolding keepsRules rowOf
-keeps-field t f body k h = first-with (λ r. eqb (r .field) f) (λ r. obeysRow r body) (tableAt t .rows) k h
+keeps-field t f body k h = first-with (λ r. eqb (r .field) f) (keepsRow t body) (tableAt t .rows) k h
 
 -- and a record breaks no field, all of which have numbers above 0, exactly if it keeps every rule.
 abbrev numbered : List Row → Bool
@@ -265,28 +222,27 @@ fields-numbered : (t : ℕ) → numbered (tableAt t .rows) ≡ true
 unfolding least every tableAt tables
 fields-numbered t = ⊎-elim (computed (λ u. numbered (tableAt u .rows)) tableCount refl t) (λ h. rw (no-table t h)) (side t tableCount)
 
-unbroken : (body : List ℕ) (rs : List Row) → numbered rs ≡ true → eqb (firstBroken rs body) 0 ≡ every (λ r. obeysRow r body) rs
+unbroken : (kept : Row → Bool) (rs : List Row) → numbered rs ≡ true → eqb (firstBroken kept rs) 0 ≡ every kept rs
 unfolding firstBroken every
-unbroken body [] n = refl
-unbroken body (r ∷ rs) n = let d = both-true (ltb 0 (r .field)) (numbered rs) n in go (obeysRow r body) (d .0) (unbroken body rs (d .1))
+unbroken kept [] n = refl
+unbroken kept (r ∷ rs) n = let d = both-true (ltb 0 (r .field)) (numbered rs) n in go (kept r) (d .0) (unbroken kept rs (d .1))
   where
-    go : (b : Bool) → ltb 0 (r .field) ≡ true → eqb (firstBroken rs body) 0 ≡ every (λ r. obeysRow r body) rs
-        → eqb (cond b (firstBroken rs body) (r .field)) 0 ≡ (b && every (λ r. obeysRow r body) rs)
+    go : (b : Bool) → ltb 0 (r .field) ≡ true → eqb (firstBroken kept rs) 0 ≡ every kept rs → eqb (cond b (firstBroken kept rs) (r .field)) 0 ≡ (b && every kept rs)
     go true l e = e
     go false l e = ne-eqb (r .field) 0 (λ z. omega (arith, ltb-true 0 (r .field) l))
 
 pub unbroken-keeps : (t : ℕ) (body : List ℕ) → eqb (brokenField t body) 0 ≡ keepsRules t body
 unfolding brokenField keepsRules
-unbroken-keeps t body = unbroken body (tableAt t .rows) (fields-numbered t)
+unbroken-keeps t body = unbroken (keepsRow t body) (tableAt t .rows) (fields-numbered t)
 
 -- so its offer, its railway and its code are such numbers.
 module _ (t : ℕ) (o : ofOffers t ≡ true) (body : List ℕ) (k : keepsRules t body ≡ true) where
   pub offer-kept : isWithin 1 99999 (numberOf (offerOf body)) ≡ true
-  unfolding offerOf bytesOf obeysRow ruled rowOf rowWith tableAt tables
+  unfolding offerOf bytesOf keepsRow keptBeside ruled rowOf rowWith tableAt tables
   offer-kept = rw (offer-row t o .0) at (keeps-field t 2 body k (offer-row t o .1))
 
   pub railway-kept : isCompany (railwayOf body) ≡ true
-  unfolding railwayOf bytesOf obeysRow ruled rowOf rowWith tableAt tables
+  unfolding railwayOf bytesOf keepsRow keptBeside ruled rowOf rowWith tableAt tables
   railway-kept = rw (railway-row t o .0) at (keeps-field t 3 body k (railway-row t o .1))
 
 codes : (t : ℕ) → (tableAt t .code ≡ 0 → ⊥) → (rowOf t (tableAt t .code) .kind ≡ NUMBER) × (has (tableAt t .code) t ≡ true)
@@ -300,5 +256,5 @@ codes t n =
 
 pub code-kept : (t : ℕ) → (tableAt t .code ≡ 0 → ⊥) → (body : List ℕ) → keepsRules t body ≡ true
     → isWithin (rowOf t (tableAt t .code) .least) (rowOf t (tableAt t .code) .most) (numberOf (bytesOf t (tableAt t .code) body)) ≡ true
-unfolding obeysRow ruled bytesOf
+unfolding keepsRow keptBeside ruled bytesOf
 code-kept t n body k = rw (codes t n .0) at (keeps-field t (tableAt t .code) body k (codes t n .1))

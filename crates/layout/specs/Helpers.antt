@@ -1,13 +1,14 @@
 -- What the code's helpers answer. Nothing here has to be believed: no promise and no answer of a call is stated with it.
 -- Assumes nothing.
-use Prim.Native.Nat.{ℕ}
-use mathlib.Core.Bool.{cond}
+use Prim.Native.Nat.{ℕ, _-_}
+use mathlib.Core.Bool.{Bool, cond}
 use mathlib.Core.List.{List, map}
 use lib.Dec.{eqb}
 use lib.ListN.{length, getD, take}
-use Rattle.common.specs.Lists.{sum}
+use Rattle.common.specs.Lists.{sum, byteAt}
 use Rattle.layout.specs.Layout.{Table, tables, tableAt}
-use Rattle.layout.specs.Fields.{rowOf}
+use Rattle.layout.specs.Fields.{fieldAt, rowOf}
+use Rattle.layout.specs.Rules.{keptBeside}
 use Rattle.layout.specs.declared.rows.Row.{Row}
 use Rattle.layout.specs.declared.fields.Span.{Span}
 
@@ -33,3 +34,7 @@ codeSpan t = cond (eqb (tableAt t .code) 0) noSpan (rowOf t (tableAt t .code) .s
 -- how many bytes the fields of a table's key have together
 unfoldable pub keyLength : ℕ → ℕ
 keyLength t = sum (map (λ f. rowOf t f .length) (tableAt t .key))
+
+-- a record keeps the rule of a row, whatever its table: the least persons and the rounding are read right before it, the first day before the version
+unfoldable pub obeysRow : List ℕ → Row → Bool
+obeysRow body row = keptBeside (fieldAt (row .start - 2) 2 body) (byteAt (row .start - 1) body) (fieldAt (row .start - 10) 8 body) body row

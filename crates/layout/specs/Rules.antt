@@ -10,7 +10,7 @@ use Rattle.layout.specs.Bytes.{isText, isBlank, byte-blank, byte-plus, b
 use Rattle.layout.specs.Company.{isCompany, isTransferor}
 use Rattle.layout.specs.Dates.{isDay}
 use Rattle.layout.specs.Layout.{TEXT, TRANSFEROR, RAILWAY, NUMBER, NUMBER-OR-BLANK, FLAG, FLAG-OR-BLANK, MOST-PERSONS, ROUNDING, FACTOR, FIRST-DAY, LAST-DAY, tableAt}
-use Rattle.layout.specs.Fields.{fieldAt, bytesIn}
+use Rattle.layout.specs.Fields.{bytesIn, bytesOf, byteOf, dayRow}
 use Rattle.layout.specs.declared.rows.Row.{Row}
 
 abbrev pub isFlag : ℕ → Bool
@@ -49,10 +49,9 @@ unfoldable pub ruled : ℕ → List (ℕ × Bool) → Bool
 ruled kind [] = false
 ruled kind (r ∷ rs) = cond (eqb kind (r .0)) (r .1) (ruled kind rs)
 
--- The rules of a row over its record. Three look back in the record: most persons at the two bytes of the least before it, the factor at the
--- rounding byte before it, and the last day at the first day, which the two bytes of the version part from it.
-unfoldable pub obeysRow : Row → List ℕ → Bool
-obeysRow row body =
+-- what the rule of a row asks of a record; most persons is held to the fewest, the factor to the rounding, and the last day to the first
+unfoldable pub keptBeside : List ℕ → ℕ → List ℕ → List ℕ → Row → Bool
+keptBeside fewest mode first body row =
     let s : List ℕ = bytesIn row body in
     let byte : ℕ = byteAt (row .start) body in
     ruled (row .kind) (
@@ -63,22 +62,27 @@ obeysRow row body =
     (NUMBER-OR-BLANK, numberOrBlank (row .least) (row .most) s) ∷
     (FLAG, isFlag byte) ∷
     (FLAG-OR-BLANK, flagOrBlank byte) ∷
-    (MOST-PERSONS, mostPersons (fieldAt (row .start - 2) 2 body) s) ∷
+    (MOST-PERSONS, mostPersons fewest s) ∷
     (ROUNDING, isRounding byte) ∷
-    (FACTOR, factorRule (byteAt (row .start - 1) body) s) ∷
+    (FACTOR, factorRule mode s) ∷
     (FIRST-DAY, firstDayRule s) ∷
-    (LAST-DAY, lastDayRule (fieldAt (row .start - 10) 8 body) s) ∷
+    (LAST-DAY, lastDayRule first s) ∷
     [])
 
--- the field of the first of some rows that a record breaks, 0 where it keeps them all
-unfoldable pub firstBroken : List Row → List ℕ → ℕ
-firstBroken [] body = 0
-firstBroken (row ∷ rs) body = cond (obeysRow row body) (firstBroken rs body) (row .field)
+-- a record of table t keeps the rule of a row: the fewest persons, and the rounding, are the field before it
+unfoldable pub keepsRow : ℕ → List ℕ → Row → Bool
+keepsRow t body row =
+    keptBeside (bytesOf t (row .field - 1) body) (byteOf t (row .field - 1) body) (bytesIn (dayRow FIRST-DAY t) body) body row
+
+-- the field of the first of some rows that is not kept, 0 where all are
+unfoldable pub firstBroken : (Row → Bool) → List Row → ℕ
+firstBroken kept [] = 0
+firstBroken kept (row ∷ rs) = cond (kept row) (firstBroken kept rs) (row .field)
 
 -- "fields from left to right": the first field that breaks its rule, 0 where none does
 unfoldable pub brokenField : ℕ → List ℕ → ℕ
-brokenField t body = firstBroken (tableAt t .rows) body
+brokenField t body = firstBroken (keepsRow t body) (tableAt t .rows)
 
 -- every field keeps its rule
 unfoldable pub keepsRules : ℕ → List ℕ → Bool
-keepsRules t body = every (λ row. obeysRow row body) (tableAt t .rows)
+keepsRules t body = every (keepsRow t body) (tableAt t .rows)

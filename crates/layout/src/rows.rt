@@ -7,8 +7,8 @@ ghost use lib.Dec.{eqb};
 ghost use Rattle.layout.specs.declared.rows.Row.{Row as SpecRow};
 ghost use Rattle.layout.specs.Layout.{layout};
 ghost use Rattle.layout.specs.Fields.{rowWith};
-ghost use Rattle.layout.specs.Rules.{obeysRow, firstBroken};
-ghost use Rattle.layout.specs.Helpers.{asRow, firstRow};
+ghost use Rattle.layout.specs.Rules.{firstBroken};
+ghost use Rattle.layout.specs.Helpers.{asRow, firstRow, obeysRow};
 use super::AR;
 use super::CO;
 use super::ME;
@@ -149,7 +149,7 @@ fn named(e: [u32; 7]) -> Row
 
 // The field of the first row that a record breaks, 0 where it keeps them all.
 pub fn broken_field(rows: &[[u32; 7]], body: &[u8]) -> usize
-    ensures { λ r. ⌜ r ≡ firstBroken (map asRow (now (rows .entry))) (now (body .entry)) ⌝ }
+    ensures { λ r. ⌜ r ≡ firstBroken (obeysRow (now (body .entry))) (map asRow (now (rows .entry))) ⌝ }
 {
     let mut k = 0;
     while k < rows.len() {
@@ -179,7 +179,7 @@ pub fn of_field(rows: &[[u32; 7]], field: usize) -> Row
 
 // Whether a record keeps the rule of a row.
 fn obeys(row: Row, body: &[u8]) -> bool
-    ensures { λ r. ⌜ r ≡ obeysRow row (now (body .entry)) ⌝ }
+    ensures { λ r. ⌜ r ≡ obeysRow (now (body .entry)) row ⌝ }
 {
     let start = row.start;
     let s = fields::field(body, start, row.length);

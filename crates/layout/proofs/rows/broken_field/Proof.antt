@@ -9,13 +9,13 @@ use lib.ListN.{length, drop}
 use borrow.Author.Needs.{needs}
 use borrow.Author.Tests.{not-true, not-false}
 use Rattle.layout.specs.Rules.{firstBroken}
-use Rattle.layout.specs.Helpers.{asRow}
+use Rattle.layout.specs.Helpers.{asRow, obeysRow}
 use Rattle.layout.proofs.RowLoops.{broken-step, broken-end}
 use Rattle.layout.proofs.rows.broken_field.Statement.{statement}
 use Rattle.layout.proofs.rows.broken_field.Tie as tie
 
 abbrev Inv-loop : tie.InvT-loop
-Inv-loop rows body k₀ k = (k ≤ length rows) × (firstBroken (map asRow rows) body ≡ firstBroken (map asRow (drop k rows)) body)
+Inv-loop rows body k₀ k = (k ≤ length rows) × (firstBroken (obeysRow body) (map asRow rows) ≡ firstBroken (obeysRow body) (map asRow (drop k rows)))
 
 abbrev μ-loop : tie.MeasureT-loop
 μ-loop rows body k₀ k = length rows - k
@@ -24,7 +24,8 @@ abbrev μ-loop : tie.MeasureT-loop
 turn : (c : tie.After-obeys Inv-loop μ-loop) → let l = c .before .before .before .before in
     let body = l .before .before .args .body .now in
     let rows = l .before .before .args .rows .now in
-    firstBroken (map asRow rows) body ≡ cond (c .obeys .result) (firstBroken (map asRow (drop (l .loop .k + 1) rows)) body) (c .before .named .result .field)
+    let obeyed = obeysRow body in
+    firstBroken obeyed (map asRow rows) ≡ cond (c .obeys .result) (firstBroken obeyed (map asRow (drop (l .loop .k + 1) rows))) (c .before .named .result .field)
 turn c =
     let i = c .before .before .before in
     let l = i .before in

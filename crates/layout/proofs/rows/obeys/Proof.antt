@@ -1,17 +1,18 @@
 -- `layout::rows::obeys` meets its contract: each arm is the rule of its kind.
 -- Assumes nothing.
-use Rattle.layout.specs.Rules.{obeysRow, ruled}
+use Rattle.layout.specs.Rules.{keptBeside, ruled}
+use Rattle.layout.specs.Helpers.{obeysRow}
 use borrow.Author.Tests.{ne-eqb}
 use borrow.Author.Needs.{needs}
 use Rattle.layout.proofs.rows.obeys.Statement.{statement}
 use Rattle.layout.proofs.rows.obeys.Tie as tie
 
 returns-13 : tie.Need-returns-13
-unfolding obeysRow ruled
+unfolding obeysRow keptBeside ruled
 returns-13 c = simp (ne-eqb _ _ (c .match .rest .0 .0 .0 .0 .0 .0 .0 .0 .0 .0 .0 .1), ne-eqb _ _ (c .match .rest .0 .0 .0 .0 .0 .0 .0 .0 .0 .0 .1), ne-eqb _ _ (c .match .rest .0 .0 .0 .0 .0 .0 .0 .0 .0 .1), ne-eqb _ _ (c .match .rest .0 .0 .0 .0 .0 .0 .0 .0 .1), ne-eqb _ _ (c .match .rest .0 .0 .0 .0 .0 .0 .0 .1), ne-eqb _ _ (c .match .rest .0 .0 .0 .0 .0 .0 .1), ne-eqb _ _ (c .match .rest .0 .0 .0 .0 .0 .1), ne-eqb _ _ (c .match .rest .0 .0 .0 .0 .1), ne-eqb _ _ (c .match .rest .0 .0 .0 .1), ne-eqb _ _ (c .match .rest .0 .0 .1), ne-eqb _ _ (c .match .rest .0 .1), ne-eqb _ _ (c .match .rest .1))
 
 pub obeys-spec : {M : Type 1} → statement M
-unfolding obeysRow ruled
+unfolding obeysRow keptBeside ruled
 obeys-spec =
     tie.close (tie.spec
     (λ c κs. search needs) (λ c κs. search needs) (λ c κs. search needs) (λ c κs. search needs) (λ c κs. search needs) (λ c κs. search needs)

@@ -4,7 +4,7 @@ use Prim.Native.Nat.{_+_, _≤_}
 use native.Mathlib.Omega.{arith}
 use borrow.Author.Needs.{needs}
 use Rattle.layout.specs.Helpers.{rowCount}
-use Rattle.layout.proofs.Tables.{in-layout, all-before}
+use Rattle.layout.proofs.BrokenField.{in-layout, all-before}
 use Rattle.layout.proofs.rows.of_table.Statement.{statement}
 use Rattle.layout.proofs.rows.of_table.Tie as tie
 
