@@ -124,14 +124,15 @@ fn tell_broken_field(bundle: &[u8], record: usize, field: usize) {
     let table = table_at(bundle, at);
     let body = body_at(bundle, at);
     let all = rows::all();
-    let row = rows::of_field(rows::of_table(&all, table), field);
+    let of_table = rows::of_table(&all, table);
+    let row = rows::of_field(of_table, field);
     say(b"A field breaks its rule.\n");
     tell_record(bundle, record, at);
     tell_field(table, row, at);
     say(b"Delivered: ");
     say_quoted(fields::field(body, row.start, row.length));
     say(b".\n");
-    names::field_rules::say_rule(row, body);
+    names::field_rules::say_rule(of_table, field, body);
 }
 
 // A field's number and name, and where it stands in the record and in the bundle.

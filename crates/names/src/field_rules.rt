@@ -5,27 +5,26 @@ use super::words::say_number;
 use super::words::say_quoted;
 use super::words::sum;
 use layout::fields;
-use layout::rows::Row;
+use layout::rows;
 use layout::rules;
 
-pub fn say_rule(row: Row, body: &[u8]) {
-    let start = row.start;
-    let field = row.field as usize;
+pub fn say_rule(of_table: &[[u32; 7]], field: usize, body: &[u8]) {
+    let row = rows::of_field(of_table, field);
     let kind = row.kind;
     say(b"It must be ");
     match kind {
-        rules::TEXT => say_text_rule(body, start, row.length),
+        rules::TEXT => say_text_rule(body, row.start, row.length),
         rules::TRANSFEROR => say(b"four digits, 0001 to 9999"),
         rules::RAILWAY => say(b"four digits, 0000 to 9999, where 0000 stands for all railways"),
         rules::NUMBER => say_limits(row.least, row.most, row.length),
         rules::NUMBER_OR_BLANK => say_limits_or_blank(row.least, row.most, row.length),
         rules::FLAG => say(b"Y or N, in capitals"),
         rules::FLAG_OR_BLANK => say(b"Y or N, in capitals, or blank"),
-        rules::MOST_PERSONS => say_most_persons_rule(body, start, field),
+        rules::MOST_PERSONS => say_most_persons_rule(of_table, field, body),
         rules::ROUNDING => say(b"one of + - 0 N"),
-        rules::FACTOR => say_factor_rule(body, start, field),
+        rules::FACTOR => say_factor_rule(of_table, field, body),
         rules::FIRST_DAY => say_day_rule(),
-        rules::LAST_DAY => say_last_day_rule(body, start, field),
+        rules::LAST_DAY => say_last_day_rule(of_table, field, body),
         _ => say(b"as the layout says"),
     }
     say(b".\n");
@@ -65,31 +64,29 @@ fn first_bad(text: &[u8]) -> usize {
 }
 
 // The field that a rule looks back to: its number, and its bytes.
-fn say_back(back: usize, bytes: &[u8]) {
+fn say_back(of_table: &[[u32; 7]], back: usize, body: &[u8]) {
+    let row = rows::of_field(of_table, back);
     say(b" in field ");
     say_number(back);
     say(b", which is ");
-    say_quoted(bytes);
+    say_quoted(fields::field(body, row.start, row.length));
 }
 
-fn say_most_persons_rule(body: &[u8], start: usize, field: usize) {
+fn say_most_persons_rule(of_table: &[[u32; 7]], field: usize, body: &[u8]) {
     say_limits_or_blank(1, 99, 2);
     say(b", and if it is 01 to 98, not below the minimum");
-    say_back(
-        common::less(field, 1),
-        fields::field(body, common::less(start, 2), 2),
-    );
+    say_back(of_table, common::less(field, 1), body);
 }
 
-fn say_factor_rule(body: &[u8], start: usize, field: usize) {
-    let rounding = fields::field(body, common::less(start, 1), 1);
-    if common::byte_at(rounding, 1) == b'N' {
+fn say_factor_rule(of_table: &[[u32; 7]], field: usize, body: &[u8]) {
+    let rounding = rows::of_field(of_table, common::less(field, 1));
+    if common::byte_at(body, rounding.start) == b'N' {
         say_limits(0, 999, 3);
     } else {
         say_limits(1, 999, 3);
     }
     say(b", under the rounding");
-    say_back(common::less(field, 1), rounding);
+    say_back(of_table, common::less(field, 1), body);
     say(b"; 000 is for rounding N only");
 }
 
@@ -97,11 +94,8 @@ fn say_day_rule() {
     say(b"a real day, written YYYYMMDD, of the years 1583 to 9999");
 }
 
-fn say_last_day_rule(body: &[u8], start: usize, field: usize) {
+fn say_last_day_rule(of_table: &[[u32; 7]], field: usize, body: &[u8]) {
     say_day_rule();
     say(b", and not before the first day");
-    say_back(
-        common::less(field, 2),
-        fields::field(body, common::less(start, 10), 8),
-    );
+    say_back(of_table, common::less(field, 2), body);
 }
