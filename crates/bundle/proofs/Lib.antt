@@ -5,3 +5,4 @@ pub mod ChoiceLaws
 pub mod CutAndJoin
 pub mod Meaning
 pub mod Unique
+pub mod Chosen

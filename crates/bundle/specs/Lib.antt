@@ -4,4 +4,5 @@ pub mod Links
 pub mod Verdict
 pub mod Meaning
 pub mod Choice
+pub mod Chosen
 pub mod Helpers

@@ -134,6 +134,48 @@ module _ {A : Type 0} (f : ℕ → A → List Check) (d : A) where
       clean-append (f i x) (eachFrom (i + 1) f xs) (rw add-zero at (g 0 (omega arith)))
       (clean-each (i + 1) xs (λ j l. let q : i + 1 + j ≡ i + suc j = omega arith in rw q (g (suc j) (suc-le-suc l))))
 
+  -- AND A FAULT exactly if one element has it, and none before that has any.
+  pub record FirstAt (i : ℕ) (xs : List A) (r : Refusal) : Type 0 where
+    pub at : ℕ
+    pub inside : at < length xs
+    pub fails : firstFault (f (i + at) (getD xs at d)) ≡ fault r
+    pub earlier-clean : (m : ℕ) → m < at → firstFault (f (i + m) (getD xs m d)) ≡ clean
+
+  first-later : {i : ℕ} (x : A) {xs : List A} {r : Refusal} → firstFault (f i x) ≡ clean → FirstAt (i + 1) xs r → FirstAt i (x ∷ xs) r
+  first-later {i} x {xs} {r} c h =
+      let q : (m : ℕ) → i + 1 + m ≡ i + suc m = λ m. omega arith in
+      record {
+        at = suc (h .at);
+        inside = suc-le-suc (h .inside);
+        fails = rw (← q (h .at)) (h .fails);
+        earlier-clean = earlier;
+      }
+    where
+      earlier : (m : ℕ) → m < suc (h .at) → firstFault (f (i + m) (getD (x ∷ xs) m d)) ≡ clean
+      earlier zero l = rw add-zero c
+      earlier (suc m) l = let q : i + 1 + m ≡ i + suc m = omega arith in rw (← q) (h .earlier-clean m (le-of-suc-le-suc l))
+
+  pub each-fault : (i : ℕ) (xs : List A) (r : Refusal) → firstFault (eachFrom i f xs) ≡ fault r → FirstAt i xs r
+  unfolding eachFrom firstFault
+  each-fault i [] r e = let z : _≡_ {A = ℕ} 0 1 = cc in absurd (omega arith)
+  each-fault i (x ∷ xs) r e =
+      ⊎-elim (λ h. first-later x (h .0) (each-fault (i + 1) xs r (h .1)))
+      (λ h. record { at = 0; inside = omega arith; fails = rw add-zero (h .1 ∙ h .2); earlier-clean = λ m l. absurd (omega arith) })
+      (by-finding fault (firstFault (f i x)) (firstFault (eachFrom (i + 1) f xs)) (sym (fault-append (f i x) (eachFrom (i + 1) f xs)) ∙ e))
+
+  pub fault-each : (i : ℕ) (xs : List A) (r : Refusal) → FirstAt i xs r → firstFault (eachFrom i f xs) ≡ fault r
+  unfolding eachFrom
+  fault-each i xs r h = go i xs (h .at) (h .inside) (h .fails) (h .earlier-clean)
+    where
+      go : (i : ℕ) (xs : List A) (k : ℕ) → k < length xs → firstFault (f (i + k) (getD xs k d)) ≡ fault r
+          → ((m : ℕ) → m < k → firstFault (f (i + m) (getD xs m d)) ≡ clean) → firstFault (eachFrom i f xs) ≡ fault r
+      go i [] k l e c = absurd (omega arith)
+      go i (x ∷ xs) zero l e c = fault-append (f i x) (eachFrom (i + 1) f xs) ∙ rw (rw add-zero at e)
+      go i (x ∷ xs) (suc k) l e c =
+          let q : (m : ℕ) → i + 1 + m ≡ i + suc m = λ m. omega arith in
+          fault-append (f i x) (eachFrom (i + 1) f xs)
+          ∙ rw (rw add-zero at (c 0 (omega arith))) (go (i + 1) xs k (le-of-suc-le-suc l) (rw (q k) e) (λ m h. rw (q m) (c (suc m) (suc-le-suc h))))
+
 -- THE NUMBERS that a list of checks can tell: those of its parts, and no fault tells another.
 module _ (ns : List ℕ) where
   pub append-tells : (a b : List Check) → TellsOf ns a → TellsOf ns b → TellsOf ns (a ++ b)

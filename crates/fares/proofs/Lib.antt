@@ -3,6 +3,7 @@ pub mod Fit
 pub mod RoundLaws
 pub mod StepLaws
 pub mod LegLaws
+pub mod LegMeaning
 pub mod FareLaws
 pub mod PriceLaws
 pub mod Meaning

@@ -1,0 +1,135 @@
+-- WHAT A FARE MEANS (document 01, 'Pricing'): which records count for a leg, by their fields; each amount from the one before it; the part and the fare. There
+-- is no search, no chosen place and no chain of steps in it.
+-- Assumes nothing.
+use Prim.Native.Nat.{ℕ, _-_, _*_, _≤_, _<_}
+use mathlib.Core.Path.{_≡_}
+use mathlib.Core.Bool.{true, false}
+use mathlib.Core.List.{List, [], _∷_, _++_}
+use mathlib.Core.Logic.{_⊎_}
+use lib.Dec.{eqb}
+use lib.ListN.{length, getD}
+use Rattle.common.specs.Lists.{any, sum}
+use Rattle.layout.specs.Bytes.{byte-Y}
+use Rattle.layout.specs.Dates.{isDay}
+use Rattle.layout.specs.Layout.{CO, AR}
+use Rattle.layout.specs.Fields.{numberIn, byteOf}
+use Rattle.bundle.specs.Records.{Rec}
+use Rattle.bundle.specs.Chosen.{NoneFor, Uses}
+use Rattle.bundle.specs.Meaning.{recordAt, Good}
+use Rattle.fares.specs.Question.{noLeg}
+use Rattle.fares.specs.Rounding.{IsRounded}
+use Rattle.fares.specs.declared.Leg.{Leg}
+use Rattle.fares.specs.declared.Question.{Question}
+
+-- THE LIMITS OF A QUESTION: "an offer 1-99,999, a real date as day, persons 1-99, a card 0-999 (0 = none), and one to eight legs, each with a railway
+-- 1-9999 and a plain fare per person of 0-999,999 cents"
+pub record LegInLimits (leg : Leg) : Type 0 where
+  pub railway : (1 ≤ leg .railway) × (leg .railway ≤ 9999)
+  pub fare : leg .fare ≤ 999999
+
+abbrev pub legAt : Question → ℕ → Leg
+legAt q k = getD (q .legs) k noLeg
+
+pub record InLimits (q : Question) : Type 0 where
+  pub offer : (1 ≤ q .offer) × (q .offer ≤ 99999)
+  pub day : isDay (q .day) ≡ true
+  pub persons : (1 ≤ q .persons) × (q .persons ≤ 99)
+  pub card : q .card ≤ 999
+  pub count : (1 ≤ q .count) × (q .count ≤ 8)
+  pub legs : (k : ℕ) → k < q .count → LegInLimits (legAt q k)
+
+-- A RECORD IN FORCE: the day is not before its first day's field, and not after its last day's
+abbrev pub InForce : ℕ → ℕ → ℕ → List ℕ → ℕ → Type 0
+InForce t first last body day = (numberIn t first body ≤ day) × (day ≤ numberIn t last body)
+
+-- AN AMOUNT AFTER A RECORD: "plain fare times (100,000 - discount) / 100,000 as an exact fraction, rounded by the .. record", by the record's fields of
+-- discount, rounding and factor; a discount that is blank is 0
+pub record IsReduced (t discount rounding factor : ℕ) (body : List ℕ) (before after : ℕ) : Type 0 where
+  pub at-most-whole : numberIn t discount body ≤ 100000
+  pub rounded-once : IsRounded (byteOf t rounding body) (before * (100000 - numberIn t discount body)) (numberIn t factor body) after
+
+-- "Least persons 00-99, most persons 01-99; two blanks mean 00 and 99", in fields 28 and 29
+abbrev pub PersonsFit : List ℕ → ℕ → Type 0
+PersonsFit co persons =
+    (numberIn CO 28 co ≤ persons) × ((persons ≤ numberIn CO 29 co) ⊎ ((numberIn CO 29 co ≡ 0) × (persons ≤ 99)))
+
+-- no field of some is Y; and the first of some that is
+abbrev pub NoneSet : List ℕ → List ℕ → Type 0
+NoneSet fs co = any (λ f. eqb (byteOf CO f co) byte-Y) fs ≡ false
+
+pub record FirstSet (fs co : List ℕ) (f : ℕ) : Type 0 where
+  pub earlier : List ℕ
+  pub later : List ℕ
+  pub split : fs ≡ earlier ++ (f ∷ later)
+  pub set : byteOf CO f co ≡ byte-Y
+  pub none-earlier : NoneSet earlier co
+
+-- "field 27, 31, 32, 34 or 35 is Y: condition unread"
+abbrev pub unreadFields : List ℕ
+unreadFields = 27 ∷ 31 ∷ 32 ∷ 34 ∷ 35 ∷ []
+
+module _ (R : List Rec) (q : Question) (leg : Leg) where
+  -- "the CO record of the offer and that railway is used, or else the offer's one for 0000"
+  abbrev pub IsConditions : ℕ → Type 0
+  IsConditions i = Uses R CO (q .offer) 0 (leg .railway) i
+
+  -- "the offer's AR record of that railway and code, or else the one of 0000"
+  abbrev pub IsCard : ℕ → Type 0
+  IsCard i = Uses R AR (q .offer) (q .card) (leg .railway) i
+
+  -- NO CARD COUNTS: none is given, or flag 33 is not Y, or there is no such AR, or the day lies outside it
+  pub data NoCard (co : List ℕ) : Type 0 where
+    none-given : q .card ≡ 0 → NoCard co
+    not-allowed : (byteOf CO 33 co ≡ byte-Y → ⊥) → NoCard co
+    no-record : NoneFor R AR (q .offer) (q .card) (leg .railway) → NoneFor R AR (q .offer) (q .card) 0 → NoCard co
+    not-in-force : (i : ℕ) → IsCard i → (InForce AR 11 13 (recordAt R i .body) (q .day) → ⊥) → NoCard co
+
+  -- A CARD COUNTS: "the same is done to that rounded amount" by its AR
+  pub record CardCounts (co : List ℕ) (before after : ℕ) : Type 0 where
+    pub given : q .card ≡ 0 → ⊥
+    pub allowed : byteOf CO 33 co ≡ byte-Y
+    pub at : ℕ
+    pub is-card : IsCard at
+    pub in-force : InForce AR 11 13 (recordAt R at .body) (q .day)
+    pub reduced : IsReduced AR 5 9 10 (recordAt R at .body) before after
+
+  -- A LEG'S PART: its CO, in force that day, admits the persons and sets no condition unread; the plain fare after the CO, and after the card if one counts,
+  -- times the persons
+  pub record LegFare (part : ℕ) : Type 0 where
+    pub at : ℕ
+    pub is-conditions : IsConditions at
+    pub in-force : InForce CO 42 44 (recordAt R at .body) (q .day)
+    pub persons-fit : PersonsFit (recordAt R at .body) (q .persons)
+    pub none-unread : NoneSet unreadFields (recordAt R at .body)
+    pub amount : ℕ
+    pub reduced : IsReduced CO 39 40 41 (recordAt R at .body) (leg .fare) amount
+    pub last : ℕ
+    pub by-card : (NoCard (recordAt R at .body) × (last ≡ amount)) ⊎ CardCounts (recordAt R at .body) amount last
+    pub times-persons : part ≡ last * q .persons
+
+  -- A LEG IS TURNED AWAY by a number and its detail. 12: no CO for railway or 0000; 13: day outside that CO; 14: persons outside its fields 28, 29; 15: a
+  -- condition unread, by its field
+  pub data TurnedAway : ℕ → ℕ → Type 0 where
+    no-conditions : NoneFor R CO (q .offer) 0 (leg .railway) → NoneFor R CO (q .offer) 0 0 → TurnedAway 12 0
+    not-in-force : (i : ℕ) → IsConditions i → (InForce CO 42 44 (recordAt R i .body) (q .day) → ⊥) → TurnedAway 13 0
+    persons-outside : (i : ℕ) → IsConditions i → InForce CO 42 44 (recordAt R i .body) (q .day) → (PersonsFit (recordAt R i .body) (q .persons) → ⊥)
+        → TurnedAway 14 0
+    unread : (i : ℕ) → IsConditions i → InForce CO 42 44 (recordAt R i .body) (q .day) → PersonsFit (recordAt R i .body) (q .persons)
+        → (f : ℕ) → FirstSet unreadFields (recordAt R i .body) f → TurnedAway 15 f
+
+-- THE FARE of a question by the records of a bundle: a part for each leg, nothing in the slots beyond them, and the sum
+pub record IsFare (bundle : List ℕ) (R : List Rec) (q : Question) (fare : ℕ) (parts : List ℕ) : Type 0 where
+  pub good : Good bundle R
+  pub in-limits : InLimits q
+  pub leg-by-leg : (k : ℕ) → k < q .count → LegFare R q (legAt q k) (getD parts k 0)
+  pub none-beyond : (k : ℕ) → q .count ≤ k → getD parts k 0 ≡ 0
+  pub eight : length parts ≡ 8
+  pub summed : fare ≡ sum parts
+
+-- NO FARE, by leg k: it is turned away, and no leg before it is
+pub record NoFare (bundle : List ℕ) (R : List Rec) (q : Question) (number k detail : ℕ) : Type 0 where
+  pub good : Good bundle R
+  pub in-limits : InLimits q
+  pub inside : k < q .count
+  pub earlier : (j : ℕ) → j < k → (part : ℕ) × LegFare R q (legAt q j) part
+  pub turned-away : TurnedAway R q (legAt q k) number detail
