@@ -5,27 +5,24 @@ use mathlib.Core.Path.{_≡_}
 use mathlib.Core.Bool.{true}
 use mathlib.Core.List.{List, map}
 use native.Mathlib.Omega.{arith}
-use lib.Dec.{leb}
 use lib.ListN.{length, getD, take}
-use borrow.Author.Tests.{leb-true}
 use Rattle.common.specs.Lists.{sum}
 use Rattle.common.specs.Checks.{firstFault}
 use Rattle.common.specs.declared.Refusal.{Refusal}
-use Rattle.common.proofs.Tests.{both-true, in-range}
-use Rattle.common.proofs.Lists.{every-at}
+use Rattle.common.proofs.Lists.{first-length, first-at}
 use Rattle.common.proofs.Checks.{fault-append}
 use Rattle.common.proofs.Sums.{sum-small}
-use Rattle.layout.specs.Company.{isRailway}
 use Rattle.bundle.specs.Records.{Rec, recordsOf}
 use Rattle.bundle.specs.Verdict.{checks, verdictOf}
 use Rattle.bundle.specs.declared.Judgement.the-variants as verdict
 use Rattle.bundle.proofs.PassLaws.{is-fault, is-clean}
-use Rattle.fares.specs.Question.{legInLimits, noLeg, legsOf, limitsOf, inLimits}
+use Rattle.fares.specs.Question.{noLeg, legsOf, inLimits}
 use Rattle.fares.specs.Reductions.{partBound}
 use Rattle.fares.specs.Legs.{partOf}
 use Rattle.fares.specs.Fare.{priceChecks, fareChecks, noFare, fareOf}
 use Rattle.fares.specs.Helpers.{priceOf}
 use Rattle.fares.specs.declared.Question.{Question}
+use Rattle.fares.proofs.QuestionLimits.{limits-mean}
 use Rattle.fares.proofs.LegLaws.{leg-small}
 
 -- what the limits say of the numbers that are computed with
@@ -35,17 +32,14 @@ pub record Asked (q : Question) : Type 0 where
   pub fares : (k : ℕ) → k < length (legsOf q) → getD (legsOf q) k noLeg .fare ≤ 999999
 
 pub asked : (q : Question) → inLimits q ≡ true → Asked q
-unfolding inLimits
 asked q e =
-    let t : (k : ℕ) → k < 6 → getD (limitsOf q) k true ≡ true = λ k l. every-at (λ b. b) (limitsOf q) e k true l in
-    let leg : (k : ℕ) → k < length (legsOf q) → legInLimits (getD (legsOf q) k noLeg) ≡ true =
-    λ k l. every-at legInLimits (legsOf q) (t 5 (omega arith)) k noLeg l in
+    let h = limits-mean q e in
     record {
-      persons = in-range 1 (q .persons) 99 (t 2 (omega arith)) .1;
-      few = in-range 1 (q .count) 8 (t 4 (omega arith)) .1;
+      persons = h .persons .1;
+      few = h .count .1;
       fares = λ k l.
-          let x = getD (legsOf q) k noLeg in
-          leb-true (x .fare) 999999 (both-true (isRailway (x .railway)) (leb (x .fare) 999999) (leg k l) .1);
+          let m : k < q .count = omega (arith, first-length noLeg (q .count) (q .legs)) in
+          rw (first-at noLeg (q .count) (q .legs) k m) (h .legs k m .fare);
     }
 
 -- the parts are small

@@ -4,6 +4,7 @@ pub mod RoundLaws
 pub mod StepLaws
 pub mod LegLaws
 pub mod LegMeaning
+pub mod QuestionLimits
 pub mod FareLaws
 pub mod PriceLaws
 pub mod Meaning
