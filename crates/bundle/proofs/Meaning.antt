@@ -21,27 +21,19 @@ use Rattle.layout.specs.Rules.{brokenField}
 use Rattle.layout.proofs.Tables.{unbroken-keeps}
 use Rattle.bundle.specs.Records.{Rec, noRec, recordsOf, restOf}
 use Rattle.bundle.specs.Keys.{otherTransferor, clash, earlierOf}
-use Rattle.bundle.specs.Links.{links, linkRows, noLink, isAsked, serves, lacks, missingLink}
+use Rattle.bundle.specs.Links.{links, missingLink}
 use Rattle.bundle.specs.Verdict.{limit, fieldChecks, endChecks, firstPass, recordChecks, secondPass, checks, verdictOf}
-use Rattle.bundle.specs.Meaning.{joined, recordAt, KeepsRules, Linked, Good}
+use Rattle.bundle.specs.Meaning.{joined, recordAt, KeepsRules, Good}
 use Rattle.bundle.specs.declared.Judgement.the-variants.{Accepted}
 use Rattle.bundle.proofs.Steps.{nothing-there}
 use Rattle.bundle.proofs.Here.{Over, unknown, short}
 use Rattle.bundle.proofs.PassLaws.{is-clean}
+use Rattle.bundle.proofs.LinkMeaning.{links-there, there-links}
 use Rattle.bundle.proofs.CutAndJoin.{cut-joined, cut-over, cut-whole, joined-cut}
 
 -- FIELDS: none is broken exactly if each keeps its rule
 unbroken : (r : Rec) → KeepsRules r → not (eqb (brokenField (r .table) (r .body)) 0) ≡ false
 unbroken r e = rw (unbroken-keeps (r .table) (r .body), e)
-
--- LINKS: what is asked for is there
-kept-row : (a b : Bool) → (a && not b) ≡ false → a ≡ true → b ≡ true
-kept-row true b e h = not-false b e
-kept-row false b e h = never h refl
-
-row-kept : (a b : Bool) → (a ≡ true → b ≡ true) → (a && not b) ≡ false
-row-kept true b f = rw (f refl)
-row-kept false b f = refl
 
 -- RECORDS beside the others
 module _ (R : List Rec) (r : Rec) where
@@ -60,20 +52,6 @@ module _ (R : List Rec) (r : Rec) where
   clash-none : (i : ℕ) → ((j : ℕ) → j < i → clash r (recordAt R j) ≡ false) → ltb (earlierOf R i r) i ≡ false
   unfolding earlierOf
   clash-none i f = none-finds (λ k. clash r (recordAt R k)) i f
-
-  links-there : ltb (missingLink R r) links ≡ false → Linked R r
-  unfolding missingLink
-  links-there e k l q =
-      let b = finds-none (lacks R r) links e k l in
-      any-at (serves (getD linkRows k noLink) r) noRec R
-      (kept-row (isAsked (getD linkRows k noLink) r) (any (serves (getD linkRows k noLink) r) R) b q)
-
-  there-links : Linked R r → ltb (missingLink R r) links ≡ false
-  unfolding missingLink
-  there-links f =
-      none-finds (lacks R r) links
-      (λ k l. row-kept (isAsked (getD linkRows k noLink) r) (any (serves (getD linkRows k noLink) r) R)
-      (λ h. let j = f k l h in at-any (serves (getD linkRows k noLink) r) noRec R (j .0) (j .1) (j .2)))
 
 -- THE END: nothing is left after the records
 nothing-left : (n : ℕ) (rest : List ℕ) → Over rest → firstFault (endChecks n rest) ≡ clean → rest ≡ []

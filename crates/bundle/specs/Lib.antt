@@ -3,6 +3,7 @@ pub mod Keys
 pub mod Links
 pub mod Verdict
 pub mod Meaning
+pub mod Faults
 pub mod Choice
 pub mod Chosen
 pub mod Helpers

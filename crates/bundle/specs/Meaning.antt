@@ -4,13 +4,14 @@ use Prim.Native.Nat.{ℕ, _≤_, _<_}
 use mathlib.Core.Path.{_≡_}
 use mathlib.Core.Bool.{true, false}
 use mathlib.Core.List.{List, [], _∷_, _++_}
+use mathlib.Core.Logic.{_⊎_}
 use lib.ListN.{length, getD}
-use Rattle.layout.specs.Layout.{tableCount, tableAt, lengthOf}
-use Rattle.layout.specs.Fields.{transferorOf}
+use Rattle.layout.specs.Bytes.{byte-0, byte-Y}
+use Rattle.layout.specs.Layout.{CO, RE, AR, ME, tableCount, tableAt, lengthOf}
+use Rattle.layout.specs.Fields.{bytesOf, byteOf, transferorOf}
 use Rattle.layout.specs.Rules.{keepsRules}
 use Rattle.bundle.specs.Records.{Rec, noRec}
 use Rattle.bundle.specs.Keys.{clash}
-use Rattle.bundle.specs.Links.{links, linkRows, noLink, isAsked, serves}
 use Rattle.bundle.specs.Verdict.{limit}
 
 -- the bytes of some records: each behind its mark, with nothing between them
@@ -30,11 +31,35 @@ pub record IsRecord (r : Rec) : Type 0 where
 abbrev pub KeepsRules : Rec → Type 0
 KeepsRules r = keepsRules (r .table) (r .body) ≡ true
 
--- each link that it asks for is there
-abbrev pub Linked : List Rec → Rec → Type 0
-Linked R r =
-    (k : ℕ) → k < links → isAsked (getD linkRows k noLink) r ≡ true
-    → (j : ℕ) × (j < length R) × (serves (getD linkRows k noLink) r (recordAt R j) ≡ true)
+-- one of the records is such
+abbrev pub There : List Rec → (Rec → Type 0) → Type 0
+There R Such = (j : ℕ) × (j < length R) × Such (recordAt R j)
+
+-- x is an RE of the code of an AR; x is a CO of the offer of a record of table t
+abbrev pub OfCode : Rec → Rec → Type 0
+OfCode ar x = (x .table ≡ RE) × (bytesOf RE 2 (x .body) ≡ bytesOf AR 4 (ar .body))
+
+abbrev pub OfOffer : ℕ → Rec → Rec → Type 0
+OfOffer t r x = (x .table ≡ CO) × (bytesOf CO 2 (x .body) ≡ bytesOf t 2 (r .body))
+
+-- x is a record of table t of the offer of a CO: "for a CO railway R other than 0000 that record must have railway R or 0000, for 0000 any railway serves"
+abbrev pub allRailways : List ℕ
+allRailways = byte-0 ∷ byte-0 ∷ byte-0 ∷ byte-0 ∷ []
+
+abbrev pub Serves : ℕ → Rec → Rec → Type 0
+Serves t co x =
+    let own : List ℕ = bytesOf CO 3 (co .body) in
+    let its : List ℕ = bytesOf t 3 (x .body) in
+    (x .table ≡ t) × (bytesOf t 2 (x .body) ≡ bytesOf CO 2 (co .body)) × ((own ≡ allRailways) ⊎ ((its ≡ own) ⊎ (its ≡ allRailways)))
+
+-- "AR needs an RE of its code .. and then a CO of its offer .. ME needs a CO of its offer .. CO with flag 33 = Y needs an AR of its offer .., with 37 = Y
+-- an ME"
+pub record Linked (R : List Rec) (r : Rec) : Type 0 where
+  pub ar-re : r .table ≡ AR → There R (OfCode r)
+  pub ar-co : r .table ≡ AR → There R (OfOffer AR r)
+  pub me-co : r .table ≡ ME → There R (OfOffer ME r)
+  pub co-ar : r .table ≡ CO → byteOf CO 33 (r .body) ≡ byte-Y → There R (Serves AR r)
+  pub co-me : r .table ≡ CO → byteOf CO 37 (r .body) ≡ byte-Y → There R (Serves ME r)
 
 -- the bytes s are the records R, and these keep every rule
 pub record Good (s : List ℕ) (R : List Rec) : Type 0 where

@@ -58,5 +58,10 @@ module _ (q : Question) where
       every-by legInLimits noLeg (legsOf q)
       (λ k l. let m : k < q .count = omega (arith, count-is) in rw (leg-is k m) (means-leg (legAt q k) (h .legs k m))) in
       rw (
-      is-between 1 (q .offer) 99999 (h .offer), h .day, is-between 1 (q .persons) 99 (h .persons), is-between 0 (q .card) 999 (omega arith, h .card),
-      is-between 1 (q .count) 8 (h .count), legs)
+        is-between 1 (q .offer) 99999 (h .offer),
+        h .day,
+        is-between 1 (q .persons) 99 (h .persons),
+        is-between 0 (q .card) 999 (omega arith, h .card),
+        is-between 1 (q .count) 8 (h .count),
+        legs,
+      )
