@@ -65,13 +65,13 @@ pub data Over (s : List ℕ) : Type 0 where
   unknown : stepOf s ≡ Unknown → Over s
   short : stepOf s ≡ Short → Over s
 
-records-over : (k : ℕ) (s : List ℕ) → Over s → recordsFrom k s ≡ []
+pub records-over : (k : ℕ) (s : List ℕ) → Over s → recordsFrom k s ≡ []
 unfolding recordsFrom
 records-over zero s o = refl
 records-over (suc k) s (unknown e) = rw e
 records-over (suc k) s (short e) = rw e
 
-rest-over : (k : ℕ) (s : List ℕ) → Over s → restFrom k s ≡ s
+pub rest-over : (k : ℕ) (s : List ℕ) → Over s → restFrom k s ≡ s
 unfolding restFrom
 rest-over zero s o = refl
 rest-over (suc k) s (unknown e) = rw e

@@ -5,5 +5,6 @@ pub mod ChoiceLaws
 pub mod CutAndJoin
 pub mod LinkMeaning
 pub mod Meaning
+pub mod Faults
 pub mod Unique
 pub mod Chosen

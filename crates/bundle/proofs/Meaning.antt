@@ -37,24 +37,24 @@ unbroken r e = rw (unbroken-keeps (r .table) (r .body), e)
 
 -- RECORDS beside the others
 module _ (R : List Rec) (r : Rec) where
-  same-transferor : otherTransferor R r ≡ false → transferorOf (r .body) ≡ transferorOf (recordAt R 0 .body)
+  pub same-transferor : otherTransferor R r ≡ false → transferorOf (r .body) ≡ transferorOf (recordAt R 0 .body)
   unfolding otherTransferor
   same-transferor e = same-is _ _ (not-false (same (transferorOf (r .body)) (transferorOf (recordAt R 0 .body))) e)
 
-  transferor-same : transferorOf (r .body) ≡ transferorOf (recordAt R 0 .body) → otherTransferor R r ≡ false
+  pub transferor-same : transferorOf (r .body) ≡ transferorOf (recordAt R 0 .body) → otherTransferor R r ≡ false
   unfolding otherTransferor
   transferor-same e = rw (is-same _ _ e)
 
-  no-clash : (i : ℕ) → ltb (earlierOf R i r) i ≡ false → (j : ℕ) → j < i → clash r (recordAt R j) ≡ false
+  pub no-clash : (i : ℕ) → ltb (earlierOf R i r) i ≡ false → (j : ℕ) → j < i → clash r (recordAt R j) ≡ false
   unfolding earlierOf
   no-clash i e = finds-none (λ k. clash r (recordAt R k)) i e
 
-  clash-none : (i : ℕ) → ((j : ℕ) → j < i → clash r (recordAt R j) ≡ false) → ltb (earlierOf R i r) i ≡ false
+  pub clash-none : (i : ℕ) → ((j : ℕ) → j < i → clash r (recordAt R j) ≡ false) → ltb (earlierOf R i r) i ≡ false
   unfolding earlierOf
   clash-none i f = none-finds (λ k. clash r (recordAt R k)) i f
 
 -- THE END: nothing is left after the records
-nothing-left : (n : ℕ) (rest : List ℕ) → Over rest → firstFault (endChecks n rest) ≡ clean → rest ≡ []
+pub nothing-left : (n : ℕ) (rest : List ℕ) → Over rest → firstFault (endChecks n rest) ≡ clean → rest ≡ []
 nothing-left n [] o e = refl
 nothing-left n (x ∷ rest) (unknown q) e =
     let d = one-clean _ 2 n 0 _ e .0 in
@@ -63,7 +63,7 @@ nothing-left n (x ∷ rest) (short q) e =
     let d = one-clean _ 3 n 0 _ (one-clean _ 2 n 0 _ e .1) .0 in
     never (rw q) d
 
-left-nothing : (n : ℕ) → firstFault (endChecks n []) ≡ clean
+pub left-nothing : (n : ℕ) → firstFault (endChecks n []) ≡ clean
 unfolding firstFault
 left-nothing n = rw nothing-there
 
@@ -109,11 +109,14 @@ module _ (s : List ℕ) where
         }
 
 module _ (s : List ℕ) (R : List Rec) (g : Good s R) where
-  recut : recordsOf s ≡ R
-  recut = rw (g .bytes) (joined-cut R (g .whole) .0)
+  back : (recordsOf s ≡ R) × (restOf s ≡ [])
+  back = rw (g .bytes, ← append-nil (joined R)) (joined-cut [] (unknown nothing-there) R (g .whole))
+
+  pub recut : recordsOf s ≡ R
+  recut = back .0
 
   left : restOf s ≡ []
-  left = rw (g .bytes) (joined-cut R (g .whole) .1)
+  left = back .1
 
   record-clean : (i : ℕ) → i < length R → firstFault (recordChecks R i (recordAt R i)) ≡ clean
   unfolding firstFault

@@ -12,7 +12,7 @@ use lib.Dec.{eqb}
 use lib.ListN.{length, getD, drop, drop-of-length-le}
 use lib.Seq.{drop-cons}
 use Rattle.common.specs.Lists.{every, any}
-use Rattle.common.specs.Checks.{Finding, clean, fault, Check, check, unless, firstFault, eachFrom, AllPass, First, isAmong, TellsOf}
+use Rattle.common.specs.Checks.{Finding, clean, fault, refuse, Check, check, unless, firstFault, eachFrom, AllPass, First, isAmong, TellsOf}
 use Rattle.common.specs.declared.Refusal.{Refusal}
 use Rattle.common.proofs.Lists.{every-append}
 use Rattle.common.proofs.Tests.{both-true, either-false}
@@ -117,6 +117,26 @@ append-clean a b e = ⊎-elim (λ h. h) (λ h. (cc, cc)) (by-finding fault (firs
 
 pub clean-append : (a b : List Check) → firstFault a ≡ clean → firstFault b ≡ clean → firstFault (a ++ b) ≡ clean
 clean-append a b e f = fault-append a b ∙ rw e f
+
+-- A fault is that of the first part that has one.
+fault-cond : (t : Bool) {x r : Refusal} {f : Finding} → cond t (fault x) f ≡ fault r → ((t ≡ true) × (x ≡ r)) ⊎ ((t ≡ false) × (f ≡ fault r))
+fault-cond true e = inl (refl, cc)
+fault-cond false e = inr (refl, e)
+
+pub one-fault : (b : Bool) (k p d : ℕ) (cs : List Check) {r : Refusal} → firstFault (check b k p d ∷ cs) ≡ fault r
+    → ((b ≡ true) × (refuse k p d ≡ r)) ⊎ ((b ≡ false) × (firstFault cs ≡ fault r))
+unfolding firstFault
+one-fault b k p d cs e = fault-cond b e
+
+pub append-fault : (a b : List Check) {r : Refusal} → firstFault (a ++ b) ≡ fault r → (firstFault a ≡ fault r) ⊎ ((firstFault a ≡ clean) × (firstFault b ≡ fault r))
+append-fault a b e = ⊎-elim (λ h. inr h) (λ h. inl (h .1 ∙ h .2)) (by-finding fault (firstFault a) (firstFault b) (sym (fault-append a b) ∙ e))
+
+pub no-fault : {A : Type 0} {f : Finding} {r : Refusal} → f ≡ clean → f ≡ fault r → A
+no-fault e h = let z : _≡_ {A = ℕ} 0 1 = cc in absurd (omega arith)
+
+pub last-fault : (b : Bool) (k p d : ℕ) {r : Refusal} → firstFault (check b k p d ∷ []) ≡ fault r → (b ≡ true) × (refuse k p d ≡ r)
+unfolding firstFault
+last-fault b k p d e = ⊎-elim (λ h. h) (λ h. no-fault refl (h .1)) (fault-cond b e)
 
 module _ {A : Type 0} (f : ℕ → A → List Check) (d : A) where
   pub each-clean : (i : ℕ) (xs : List A) → firstFault (eachFrom i f xs) ≡ clean → (j : ℕ) → j < length xs → firstFault (f (i + j) (getD xs j d)) ≡ clean
