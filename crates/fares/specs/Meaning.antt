@@ -15,6 +15,7 @@ use Rattle.layout.specs.Layout.{CO, AR}
 use Rattle.layout.specs.Fields.{numberIn, byteOf}
 use Rattle.bundle.specs.Records.{Rec}
 use Rattle.bundle.specs.Chosen.{NoneFor, Uses}
+use Rattle.bundle.specs.Faults.{Fault}
 use Rattle.bundle.specs.Meaning.{recordAt, Good}
 use Rattle.fares.specs.Question.{noLeg}
 use Rattle.fares.specs.Rounding.{IsRounded}
@@ -126,10 +127,9 @@ pub record IsFare (bundle : List ℕ) (R : List Rec) (q : Question) (fare : ℕ)
   pub eight : length parts ≡ 8
   pub summed : fare ≡ sum parts
 
--- NO FARE, by leg k: it is turned away, and no leg before it is
-pub record NoFare (bundle : List ℕ) (R : List Rec) (q : Question) (number k detail : ℕ) : Type 0 where
-  pub good : Good bundle R
-  pub in-limits : InLimits q
-  pub inside : k < q .count
-  pub earlier : (j : ℕ) → j < k → (part : ℕ) × LegFare R q (legAt q j) part
-  pub turned-away : TurnedAway R q (legAt q k) number detail
+-- NO FARE, by number, place and detail: the bundle has a fault; or the question is outside its limits; or leg k is turned away, and no leg before it
+pub data NoFare (bundle : List ℕ) (R : List Rec) (rest : List ℕ) (q : Question) : ℕ → ℕ → ℕ → Type 0 where
+  faulty : {n p d : ℕ} → Fault bundle R rest n p d → NoFare bundle R rest q n p d
+  outside-limits : Good bundle R → (InLimits q → ⊥) → NoFare bundle R rest q 11 0 0
+  at-leg : Good bundle R → InLimits q → (k : ℕ) → k < q .count → ((j : ℕ) → j < k → (part : ℕ) × LegFare R q (legAt q j) part)
+      → {n d : ℕ} → TurnedAway R q (legAt q k) n d → NoFare bundle R rest q n k d
