@@ -128,9 +128,9 @@ static int writes_book(const struct request *r) { return r->call == SALE || r->c
 
 /* ---- spoiling */
 
-enum wrong { ANSWER, ONE_ANSWER, WORD, ONE_WORD, READ_BEHIND, READ_BEFORE, WRITE_BEHIND, WRITE_SLACK, WRITE_BUNDLE, WRONGS };
-static const char *const WRONG_NAMES[WRONGS] = {"answer",      "one-answer",   "word",        "one-word",    "read-behind",
-                                                "read-before", "write-behind", "write-slack", "write-bundle"};
+enum wrong { ANSWER, ONE_ANSWER, SUM, WORD, ONE_WORD, READ_BEHIND, READ_BEFORE, WRITE_BEHIND, WRITE_SLACK, WRITE_BUNDLE, WRONGS };
+static const char *const WRONG_NAMES[WRONGS] = {"answer",      "one-answer",  "sum",          "word",        "one-word",
+                                                "read-behind", "read-before", "write-behind", "write-slack", "write-bundle"};
 static enum wrong wrong = WRONGS;
 static uint64_t requests_until_wrong;
 
@@ -141,6 +141,7 @@ static int is_wrong_now(const struct request *r) {
     int needs_bundle = wrong == READ_BEHIND || wrong == READ_BEFORE || wrong == WRITE_BUNDLE;
     int needs_book = wrong == WORD || wrong == ONE_WORD || wrong == WRITE_BEHIND || wrong == WRITE_SLACK;
     if (needs_bundle) return reads_bundle(r) && r->bundle_sent > 0;
+    if (wrong == SUM) return reads_book(r) && !writes_book(r);
     if (needs_book) return writes_book(r) && (r->book_sent > 0 || r->book_kept);
     return 1;
 }
@@ -153,7 +154,8 @@ static void spoil_answer(const struct request *r, struct answer *answer) {
 static void spoil(const struct request *r, enum end end, struct answer *answer, const struct room *bundle, const struct room *book) {
     volatile uint8_t *bundle_bytes = bundle->buffer, *book_bytes = book->buffer;
     switch (wrong) {
-    case ANSWER: spoil_answer(r, answer); break;
+    case ANSWER:
+    case SUM: spoil_answer(r, answer); break;
     case ONE_ANSWER:
         if (end == BEHIND) spoil_answer(r, answer);
         break;

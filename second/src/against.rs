@@ -27,6 +27,7 @@ pub struct Outcome {
     pub passed: u64,
     pub failed: u64,
     pub table: String,
+    pub calls: u64,
 }
 
 pub fn run(seed: u64, count: u64, folder: &Path, driver: &[String]) -> io::Result<Outcome> {
@@ -48,6 +49,7 @@ pub fn run(seed: u64, count: u64, folder: &Path, driver: &[String]) -> io::Resul
         passed: bench.passed,
         failed,
         table: bench.coverage.table(),
+        calls: bench.calls,
     })
 }
 
@@ -67,6 +69,30 @@ pub struct Compared {
     pub second: Answer,
     pub book: Vec<u32>,
     pub difference: Option<String>,
+}
+
+/// Another reckoning of an amount, and what it comes to.
+type Due = (&'static str, u64);
+
+impl Compared {
+    /// What the library tells, unless it refuses or ends.
+    fn amount(&self) -> Option<u64> {
+        let answer = self.library.as_ref().ok()?.answer;
+        (answer.number == 0).then_some(answer.value)
+    }
+
+    fn hold(&mut self, dues: &[Due]) {
+        let told = self.amount();
+        let wrong = dues.iter().filter(|due| told != Some(due.1));
+        let complaints = wrong.map(|(reckoning, due)| format!("{reckoning} comes to {due}"));
+        let all: Vec<String> = self
+            .difference
+            .take()
+            .into_iter()
+            .chain(complaints)
+            .collect();
+        self.difference = (!all.is_empty()).then(|| all.join("; "));
+    }
 }
 
 fn compare(driver: &mut Driver, call: &Call, lent: &Lent) -> io::Result<Compared> {
@@ -113,6 +139,7 @@ struct Bench {
     coverage: Coverage,
     case: u64,
     case_failed: bool,
+    calls: u64,
     passed: u64,
     failed: u64,
     differences: u64,
@@ -128,6 +155,7 @@ impl Bench {
             coverage: Coverage::default(),
             case: 0,
             case_failed: false,
+            calls: 0,
             passed: 0,
             failed: 0,
             differences: 0,
@@ -147,28 +175,21 @@ impl Bench {
         }
     }
 
-    /// The second program's answer, and the book as it leaves it.
-    fn ask(&mut self, call: &Call, lent: &Lent) -> io::Result<(Answer, Vec<u32>)> {
-        let compared = compare(&mut self.driver, call, lent)?;
+    fn ask(&mut self, call: &Call, lent: &Lent) -> io::Result<()> {
+        self.ask_held(call, lent, &[])?;
+        Ok(())
+    }
+
+    /// Holds the library to other reckonings as well.
+    fn ask_held(&mut self, call: &Call, lent: &Lent, dues: &[Due]) -> io::Result<Compared> {
+        let mut compared = compare(&mut self.driver, call, lent)?;
+        compared.hold(dues);
         if compared.difference.is_some() {
             self.save(call, lent, &compared)?;
         }
+        self.calls += 1;
         self.coverage.note(call, lent, &compared.second);
-        Ok((compared.second, compared.book))
-    }
-
-    /// Asks a sum and holds it to what it should be by another reckoning.
-    fn ask_sum(&mut self, call: &Call, book: &[u32], due: u64) -> io::Result<()> {
-        let lent = Lent::of(&[], book);
-        let mut compared = compare(&mut self.driver, call, &lent)?;
-        let told = (compared.second.number, compared.second.value);
-        if compared.difference.is_none() && told != (0, due) {
-            compared.difference = Some(format!("the history comes to {due}"));
-        }
-        if compared.difference.is_some() {
-            self.save(call, &lent, &compared)?;
-        }
-        Ok(())
+        Ok(compared)
     }
 
     fn save(&mut self, call: &Call, lent: &Lent, compared: &Compared) -> io::Result<()> {
@@ -186,5 +207,47 @@ impl Bench {
             path.display()
         );
         Ok(())
+    }
+}
+
+#[cfg(test)]
+mod tests {
+    use super::*;
+
+    fn told(number: u64, value: u64) -> Compared {
+        let answer = Answer {
+            number,
+            value,
+            ..Answer::default()
+        };
+        let reply = Reply {
+            finding: 0,
+            answer,
+            changes: Vec::new(),
+        };
+        Compared {
+            library: Ok(reply),
+            second: answer,
+            book: Vec::new(),
+            difference: None,
+        }
+    }
+
+    #[test]
+    fn an_amount_is_held_to_each_reckoning() {
+        let mut compared = told(0, 5);
+        compared.hold(&[("one", 5), ("two", 5)]);
+        assert_eq!(compared.difference, None);
+        compared.hold(&[("one", 5), ("two", 6)]);
+        compared.hold(&[("three", 7)]);
+        let complaints = compared.difference.as_deref();
+        assert_eq!(complaints, Some("two comes to 6; three comes to 7"));
+    }
+
+    #[test]
+    fn a_refusal_tells_no_amount() {
+        let mut compared = told(21, 0);
+        compared.hold(&[("one", 0)]);
+        assert_eq!(compared.difference.as_deref(), Some("one comes to 0"));
     }
 }

@@ -67,7 +67,7 @@ impl Entry {
     }
 }
 
-fn is_sale_number(till: u64, sequence: u64) -> bool {
+pub fn is_sale_number(till: u64, sequence: u64) -> bool {
     (1..=LARGEST_TILL).contains(&till) && (1..=LARGEST_SEQUENCE).contains(&sequence)
 }
 

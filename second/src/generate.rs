@@ -8,4 +8,5 @@ pub mod drafts;
 pub mod histories;
 pub mod questions;
 pub mod random;
+pub mod resent;
 pub mod valid;

@@ -58,8 +58,8 @@ fn against(seed: u64, count: u64, folder: &Path, driver: &[String]) -> ExitCode 
     };
     let (passed, failed) = (outcome.passed, outcome.failed);
     let said = say(&format!(
-        "{}{passed} passed, {failed} failed",
-        outcome.table
+        "{}{} calls\n{passed} passed, {failed} failed",
+        outcome.table, outcome.calls
     ));
     if failed > 0 {
         return ExitCode::FAILURE;

@@ -8,6 +8,7 @@ use super::wire::{outcome, Answer, Call, Lent, Name};
 use crate::bundle::{readable_records, LONGEST_BUNDLE};
 use crate::fare::{priced_legs, CardUse, PricedLeg, Source};
 use crate::generate::corpus::every_row;
+use crate::generate::resent::Change;
 use crate::layout::{co, Table};
 use crate::rounding::{Reduction, Rounding};
 
@@ -27,6 +28,15 @@ const RAILWAY: &str = "railway asked";
 const GREATEST_FARE: &str = "greatest fare";
 const UNUSED_LEGS: &str = "unused legs";
 const MALFORMED: &str = "malformed book";
+const SETTLED: &str = "settled after";
+const REFUSED: &str = "refused";
+const OUTCOMES: [&str; 5] = [
+    "booked",
+    "already booked, live",
+    "already booked, cancelled",
+    "cancelled",
+    "already cancelled",
+];
 /// Eight legs and 99 persons at 999,999, rounded up by 998 and then by 997.
 const GREATEST_PRICED: u64 = 8 * 99 * 1_001_985;
 const WIDEST_LINE: usize = 110;
@@ -48,6 +58,22 @@ impl Coverage {
         self.meet(MALFORMED, kind);
     }
 
+    /// All balances and the total were asked after it.
+    pub fn note_settled(&mut self, answer: &Answer) {
+        self.meet(SETTLED, outcome_of(answer).unwrap_or(REFUSED));
+    }
+
+    /// A sale was sent again, so changed; the first of its number was live then or cancelled.
+    pub fn note_resent(&mut self, change: Change, is_cancelled: bool, answer: &Answer) {
+        let group = match (answer.number, answer.outcome) {
+            (23, _) => "23",
+            (_, outcome::ALREADY_BOOKED) => "again",
+            (_, outcome::BOOKED) => "new",
+            _ => return,
+        };
+        self.meet(&resent_group(group, is_cancelled), change);
+    }
+
     pub fn note(&mut self, call: &Call, lent: &Lent, answer: &Answer) {
         self.note_arguments(call, lent);
         if answer.number != 0 {
@@ -55,7 +81,9 @@ impl Coverage {
             return self.note_detail(lent, answer);
         }
         self.meet(call.name.word(), ANSWERED);
-        self.note_outcome(answer);
+        if let Some(outcome) = outcome_of(answer) {
+            self.meet(OUTCOME, outcome);
+        }
         let is_priced = call.name == Name::Fare || answer.outcome == outcome::BOOKED;
         if call.name == Name::Fare && answer.value == GREATEST_PRICED {
             self.meet(GREATEST_FARE, answer.value);
@@ -89,17 +117,6 @@ impl Coverage {
             }
             7 => self.meet(LINK, answer.detail),
             15 => self.meet(UNREAD, answer.detail),
-            _ => (),
-        }
-    }
-
-    fn note_outcome(&mut self, answer: &Answer) {
-        match (answer.outcome, answer.cancelled) {
-            (outcome::BOOKED, _) => self.meet(OUTCOME, "booked"),
-            (outcome::ALREADY_BOOKED, 0) => self.meet(OUTCOME, "already booked, live"),
-            (outcome::ALREADY_BOOKED, _) => self.meet(OUTCOME, "already booked, cancelled"),
-            (outcome::CANCELLED, _) => self.meet(OUTCOME, "cancelled"),
-            (outcome::ALREADY_CANCELLED, _) => self.meet(OUTCOME, "already cancelled"),
             _ => (),
         }
     }
@@ -160,6 +177,22 @@ impl Coverage {
     }
 }
 
+fn outcome_of(answer: &Answer) -> Option<&'static str> {
+    match (answer.outcome, answer.cancelled) {
+        (outcome::BOOKED, _) => Some(OUTCOMES[0]),
+        (outcome::ALREADY_BOOKED, 0) => Some(OUTCOMES[1]),
+        (outcome::ALREADY_BOOKED, _) => Some(OUTCOMES[2]),
+        (outcome::CANCELLED, _) => Some(OUTCOMES[3]),
+        (outcome::ALREADY_CANCELLED, _) => Some(OUTCOMES[4]),
+        _ => None,
+    }
+}
+
+fn resent_group(group: &str, is_cancelled: bool) -> String {
+    let first = if is_cancelled { "cancelled" } else { "live" };
+    format!("{group}, {first}")
+}
+
 fn field_group(table: Table) -> String {
     format!("4 in {}, field", table.mark())
 }
@@ -194,6 +227,7 @@ fn numbers_of(name: Name) -> &'static [u64] {
 /// All that a full run must meet, in the order of the table.
 fn every_point() -> Vec<Point> {
     let mut groups = groups_of_numbers();
+    groups.extend(groups_of_histories());
     groups.extend(groups_of_pricing());
     groups.extend(groups_of_arguments());
     let points_of = |(group, items): (String, Vec<String>)| {
@@ -221,16 +255,18 @@ fn groups_of_numbers() -> Vec<Group> {
     }
     groups.push(group(LINK, &[1, 2, 3, 4]));
     groups.push(group(UNREAD, &co::UNREAD_CONDITIONS));
-    groups.push(group(
-        OUTCOME,
-        &[
-            "booked",
-            "already booked, live",
-            "already booked, cancelled",
-            "cancelled",
-            "already cancelled",
-        ],
-    ));
+    groups.push(group(OUTCOME, &OUTCOMES));
+    groups
+}
+
+fn groups_of_histories() -> Vec<Group> {
+    let mut groups = vec![group(SETTLED, &OUTCOMES), group(SETTLED, &[REFUSED])];
+    for is_cancelled in [false, true] {
+        let resent = |name| resent_group(name, is_cancelled);
+        groups.push(group(&resent("again"), &Change::OF_NOTHING));
+        groups.push(group(&resent("23"), &Change::of_question()));
+        groups.push(group(&resent("new"), &Change::OF_NUMBER));
+    }
     groups
 }
 
@@ -280,5 +316,21 @@ mod tests {
         assert!(!coverage.gaps().contains(&"total: 21".to_string()));
         assert!(coverage.gaps().contains(&"cancel: 21".to_string()));
         assert!(coverage.table().contains("21 x1"));
+    }
+
+    #[test]
+    fn a_change_is_met_by_the_answer_due_to_it() {
+        let mut coverage = Coverage::default();
+        let refused = |number| Answer {
+            number,
+            ..Answer::default()
+        };
+        coverage.note_resent(Change::Offer, true, &refused(23));
+        coverage.note_resent(Change::Day, false, &refused(21));
+        coverage.note_resent(Change::Nothing, false, &refused(23));
+        let gaps = coverage.gaps();
+        let is_gap = |words: &str| gaps.contains(&words.to_string());
+        assert!(!is_gap("23, cancelled: offer") && is_gap("23, live: offer"));
+        assert!(is_gap("23, live: day") && is_gap("again, live: unchanged"));
     }
 }

@@ -3,85 +3,135 @@
 use std::io;
 
 use super::tally::Tally;
-use super::wire::{Call, Lent, Name};
-use super::Bench;
-use crate::book::words::{book_of_words, empty_book, is_sound};
-use crate::book::MOST_ENTRIES;
+use super::wire::{Answer, Call, Lent, Name};
+use super::{Bench, Due};
+use crate::book::words::{book_of_words, empty_book};
+use crate::book::{Book, MOST_ENTRIES};
 use crate::fare::{fare, Fare};
 use crate::generate::books::sale_number;
 use crate::generate::drafts::{assemble, Draft};
 use crate::generate::histories::{drawn_bundles, drawn_step, starting_book, Step};
-use crate::generate::questions::question_in_limits;
+use crate::generate::questions::{question_in_limits, with_legs};
 use crate::generate::random::Random;
+use crate::generate::resent::{Change, Sent};
 use crate::layout::Table;
-use crate::question::Question;
+use crate::question::{is_railway, Question, LEG_SLOTS};
 
 const MIXED_STEPS: u64 = 40;
 const STEPS_OF_A_FULL_BOOK: u64 = 30;
-/// One filling history to so many others.
-const FILLING_ONE_IN: u64 = 8;
+const STEPS_BEFORE_RESENDING: u64 = 6;
 
 pub fn run(bench: &mut Bench, random: &mut Random, turn: u64) -> io::Result<()> {
-    match turn % FILLING_ONE_IN {
+    let legs = 1 + turn as usize / 8 % LEG_SLOTS;
+    match turn % 16 {
         0 => filling(bench, random),
-        1 => mixed(bench, random, starting_book),
+        1 | 9 => mixed(bench, random, starting_book),
+        2 | 10 => resending(bench, random, legs),
         _ => mixed(bench, random, |_| empty_book()),
     }
 }
 
-/// A book on its way through a history, with the tally beside it.
+/// A book on its way through a history, with the tally beside it; none beside an unsound book.
 struct Course {
     bundles: Vec<Vec<u8>>,
     book: Vec<u32>,
-    tally: Tally,
+    tally: Option<Tally>,
 }
 
 impl Course {
     fn from(bundles: Vec<Vec<u8>>, book: Vec<u32>) -> Course {
-        let tally = Tally::of(&book_of_words(&book).unwrap_or_default());
+        let known = book_of_words(&book).filter(Book::is_sound);
         Course {
             bundles,
             book,
-            tally,
+            tally: known.map(|known| Tally::of(&known)),
         }
     }
 
-    fn take(&mut self, bench: &mut Bench, step: &Step) -> io::Result<()> {
+    fn take(&mut self, bench: &mut Bench, step: &Step) -> io::Result<Answer> {
         let (call, bundle) = call_of(step);
         let bundle = bundle.map_or(&[][..], |place| &self.bundles[place]);
-        let (answer, book) = bench.ask(&call, &Lent::of(bundle, &self.book))?;
-        self.tally.note(&call, &answer);
-        self.book = book;
+        let lent = Lent::of(bundle, &self.book);
+        let compared = bench.ask_held(&call, &lent, &self.dues(&call))?;
+        if let Some(tally) = &mut self.tally {
+            tally.note(&call, bundle);
+        }
+        self.book = compared.book;
+        if matches!(call.name, Name::Sale | Name::Cancel) {
+            self.settle(bench, &call.question, &compared.second)?;
+        }
+        Ok(compared.second)
+    }
+
+    fn dues(&self, call: &Call) -> Vec<Due> {
+        let railway = u64::from(call.railway);
+        match (&self.tally, call.name) {
+            (Some(tally), Name::Total) => vec![("the history", tally.total())],
+            (Some(tally), Name::Balance) if is_railway(railway) => {
+                vec![("the history", tally.balance(railway))]
+            }
+            _ => Vec::new(),
+        }
+    }
+
+    /// Asks every balance, and the total, which must also be their sum.
+    fn settle(&self, bench: &mut Bench, asked: &Question, answer: &Answer) -> io::Result<()> {
+        let Some(tally) = &self.tally else {
+            return Ok(());
+        };
+        let lent = Lent::of(&[], &self.book);
+        let mut sum = 0;
+        for railway in tally.railways(asked) {
+            let call = Call::balance(railway);
+            let compared = bench.ask_held(&call, &lent, &self.dues(&call))?;
+            sum += compared.amount().unwrap_or(0);
+        }
+        let call = Call::of(Name::Total);
+        let mut dues = self.dues(&call);
+        dues.push(("the sum of the balances", sum));
+        bench.ask_held(&call, &lent, &dues)?;
+        bench.coverage.note_settled(answer);
         Ok(())
     }
 
     fn take_drawn(&mut self, bench: &mut Bench, random: &mut Random) -> io::Result<()> {
         let known = book_of_words(&self.book).unwrap_or_default();
         let step = drawn_step(random, &known, &self.bundles);
-        self.take(bench, &step)
+        self.take(bench, &step)?;
+        Ok(())
     }
 
-    fn settle(&self, bench: &mut Bench) -> io::Result<()> {
-        if !is_sound(&self.book) {
+    fn resend(
+        &mut self,
+        bench: &mut Bench,
+        random: &mut Random,
+        first: &Sent,
+        change: Change,
+    ) -> io::Result<()> {
+        let Some(sent) = change.applied(random, first) else {
             return Ok(());
-        }
-        for &railway in self.tally.railways() {
-            let due = self.tally.balance(railway);
-            bench.ask_sum(&Call::balance(railway), &self.book, due)?;
-        }
-        bench.ask_sum(&Call::of(Name::Total), &self.book, self.tally.total())
+        };
+        let bundle = random.place_in(self.bundles.len());
+        let is_cancelled = self.is_cancelled(first);
+        let answer = self.take(bench, &Step::Sale { bundle, sent })?;
+        bench.coverage.note_resent(change, is_cancelled, &answer);
+        Ok(())
+    }
+
+    fn is_cancelled(&self, sent: &Sent) -> bool {
+        let number = (sent.till, sent.sequence);
+        let tally = self.tally.as_ref();
+        tally.is_some_and(|tally| tally.is_cancelled(number))
     }
 }
 
 /// The call, and the place of the bundle it is lent.
 pub fn call_of(step: &Step) -> (Call, Option<usize>) {
     match *step {
-        Step::Sale {
-            bundle,
-            till,
-            sequence,
-            ref question,
-        } => (Call::sale(till, sequence, question), Some(bundle)),
+        Step::Sale { bundle, ref sent } => {
+            let call = Call::sale(sent.till, sent.sequence, &sent.question);
+            (call, Some(bundle))
+        }
         Step::Cancel { till, sequence } => (Call::cancel(till, sequence), None),
         Step::Balance { railway } => (Call::balance(railway), None),
         Step::Total => (Call::of(Name::Total), None),
@@ -97,7 +147,7 @@ fn mixed(
     for _ in 0..MIXED_STEPS {
         course.take_drawn(bench, random)?;
     }
-    course.settle(bench)
+    Ok(())
 }
 
 /// From the empty book until it is full, and on.
@@ -116,17 +166,46 @@ fn filling(bench: &mut Bench, random: &mut Random) -> io::Result<()> {
         course.take_drawn(bench, random)?;
     }
     course.take(bench, &sale_of(random, question))?;
-    course.settle(bench)
+    Ok(())
 }
 
-fn sale_of(random: &mut Random, question: Question) -> Step {
+/// A sale of so many legs, sent again with every change there is, before its cancellation and after it.
+fn resending(bench: &mut Bench, random: &mut Random, legs: usize) -> io::Result<()> {
+    let mut bundles = drawn_bundles(random);
+    let question = priceable(random, &mut bundles);
+    let question = with_legs(random, &question, legs);
+    let mut course = Course::from(bundles, empty_book());
+    for _ in 0..STEPS_BEFORE_RESENDING {
+        course.take_drawn(bench, random)?;
+    }
+    let sent = numbered(random, question);
+    let (till, sequence) = (sent.till, sent.sequence);
+    for step in [
+        Step::Sale { bundle: 0, sent },
+        Step::Cancel { till, sequence },
+    ] {
+        course.take(bench, &step)?;
+        let mut changes = Change::all();
+        random.shuffle(&mut changes);
+        for change in changes {
+            course.resend(bench, random, &sent, change)?;
+        }
+    }
+    Ok(())
+}
+
+fn numbered(random: &mut Random, question: Question) -> Sent {
     let (till, sequence) = sale_number(random);
-    Step::Sale {
-        bundle: 0,
+    Sent {
         till,
         sequence,
         question,
     }
+}
+
+fn sale_of(random: &mut Random, question: Question) -> Step {
+    let sent = numbered(random, question);
+    Step::Sale { bundle: 0, sent }
 }
 
 /// A question that the first bundle prices; a plain one takes its place where none is found.

@@ -1,31 +1,22 @@
 //! Renders "The sales book" as histories of calls, with repeats, cancels and full books.
 
-use super::books::{malformed_book, sale_number, sound_book, sound_book_of};
+use super::books::{malformed_book, sale_number, sound_book_of};
 use super::corpus::Corpus;
 use super::damage::{with_relation_fault, RelationFault};
-use super::questions::{break_a_limit, question};
+use super::questions::question;
 use super::random::Random;
+use super::resent::{changed, Sent};
 use super::valid::valid_bundle;
 use crate::book::words::{balance, book_of_words, cancel, empty_book, sale, total, words_of_book};
 use crate::book::{Book, Cancel, Sale, Sum};
 use crate::bundle::LONGEST_BUNDLE;
-use crate::question::{Question, LEG_SLOTS};
+use crate::question::LEG_SLOTS;
 
 #[derive(Clone, Copy, Debug, PartialEq, Eq)]
 pub enum Step {
-    Sale {
-        bundle: usize,
-        till: u64,
-        sequence: u64,
-        question: Question,
-    },
-    Cancel {
-        till: u64,
-        sequence: u64,
-    },
-    Balance {
-        railway: u64,
-    },
+    Sale { bundle: usize, sent: Sent },
+    Cancel { till: u64, sequence: u64 },
+    Balance { railway: u64 },
     Total,
 }
 
@@ -45,12 +36,13 @@ pub struct History {
 
 pub fn perform(step: &Step, words: &mut [u32], bundles: &[Vec<u8>]) -> Answer {
     match *step {
-        Step::Sale {
-            bundle,
-            till,
-            sequence,
-            ref question,
-        } => Answer::Sale(sale(words, &bundles[bundle], till, sequence, question)),
+        Step::Sale { bundle, ref sent } => Answer::Sale(sale(
+            words,
+            &bundles[bundle],
+            sent.till,
+            sent.sequence,
+            &sent.question,
+        )),
         Step::Cancel { till, sequence } => Answer::Cancel(cancel(words, till, sequence)),
         Step::Balance { railway } => Answer::Sum(balance(words, railway)),
         Step::Total => Answer::Sum(total(words)),
@@ -97,17 +89,28 @@ pub fn any_bundle(random: &mut Random) -> Vec<u8> {
 }
 
 pub fn starting_book(random: &mut Random) -> Vec<u32> {
-    let words = |book: Book| words_of_book(&book).expect("a sound book fits its words");
-    match random.below(12) {
-        0 => malformed_book(random),
-        1 => words(sound_book(random)),
-        2 => words(sound_book_of(random, 256)),
-        3 | 4 => {
-            let count = random.between(250, 255) as usize;
-            words(sound_book_of(random, count))
+    let count = match random.below(12) {
+        0 => return malformed_book(random),
+        1 => random.between(1, 12),
+        2 => 256,
+        3 | 4 => random.between(250, 255),
+        _ => return empty_book(),
+    };
+    let book = book_of_few_railways(random, count as usize);
+    words_of_book(&book).expect("a sound book fits its words")
+}
+
+/// Few, so that every balance can be asked after each step.
+fn book_of_few_railways(random: &mut Random, count: usize) -> Book {
+    let railways = [1, 9999, random.between(1, 9999), random.between(1, 9999)];
+    let mut book = sound_book_of(random, count);
+    for entry in &mut book.entries {
+        let used = entry.question.used_slots();
+        for leg in &mut entry.question.legs[..used] {
+            leg.railway = random.pick(&railways);
         }
-        _ => empty_book(),
     }
+    book
 }
 
 pub fn drawn_step(random: &mut Random, known: &Book, bundles: &[Vec<u8>]) -> Step {
@@ -128,12 +131,12 @@ pub fn drawn_step(random: &mut Random, known: &Book, bundles: &[Vec<u8>]) -> Ste
 fn new_sale(random: &mut Random, bundles: &[Vec<u8>]) -> Step {
     let (till, sequence) = sale_number(random);
     let bundle = drawn_bundle(random, bundles);
-    Step::Sale {
-        bundle,
+    let sent = Sent {
         till,
         sequence,
         question: question(random, &bundles[bundle]),
-    }
+    };
+    Step::Sale { bundle, sent }
 }
 
 fn drawn_bundle(random: &mut Random, bundles: &[Vec<u8>]) -> usize {
@@ -149,44 +152,30 @@ fn repeated_sale(random: &mut Random, known: &Book, bundles: &[Vec<u8>]) -> Step
         return new_sale(random, bundles);
     }
     let entry = random.pick(&known.entries);
-    let mut question = entry.question;
-    for slot in question.used_slots()..LEG_SLOTS {
-        question.legs[slot].fare = random.pick(&[0, 0, 7, u64::MAX]);
-    }
-    Step::Sale {
-        bundle: random.place_in(bundles.len()),
+    let mut sent = Sent {
         till: entry.till,
         sequence: entry.sequence,
-        question,
+        question: entry.question,
+    };
+    for slot in sent.question.used_slots()..LEG_SLOTS {
+        sent.question.legs[slot].fare = random.pick(&[0, 0, 7, u64::MAX]);
     }
+    let bundle = random.place_in(bundles.len());
+    Step::Sale { bundle, sent }
 }
 
 fn changed_repeat(random: &mut Random, known: &Book, bundles: &[Vec<u8>]) -> Step {
     let mut step = repeated_sale(random, known, bundles);
-    if let Step::Sale { question, .. } = &mut step {
-        change(random, question);
+    if let Step::Sale { sent, .. } = &mut step {
+        *sent = changed(random, sent);
     }
     step
 }
 
-fn change(random: &mut Random, question: &mut Question) {
-    let slot = random.place_in(question.used_slots().max(1));
-    match random.below(8) {
-        0 => question.offer ^= 1,
-        1 => question.day ^= 1,
-        2 => question.persons ^= 1,
-        3 => question.card ^= 1,
-        4 => question.leg_count = random.between(0, 9),
-        5 => question.legs[slot].railway ^= 1,
-        6 => question.legs[slot].fare ^= 1,
-        _ => break_a_limit(random, question),
-    }
-}
-
 fn sale_out_of_limits(random: &mut Random, bundles: &[Vec<u8>]) -> Step {
     let mut step = new_sale(random, bundles);
-    if let Step::Sale { till, sequence, .. } = &mut step {
-        (*till, *sequence) = number_out_of_limits(random);
+    if let Step::Sale { sent, .. } = &mut step {
+        (sent.till, sent.sequence) = number_out_of_limits(random);
     }
     step
 }

@@ -131,6 +131,23 @@ fn aimed_question(random: &mut Random, shelf: &Shelf) -> Question {
     question
 }
 
+/// Of so many legs, all on the railways of the first, so that it is priced where that is; often two of them are equal.
+pub fn with_legs(random: &mut Random, first: &Question, count: usize) -> Question {
+    let mut legs = [Leg::default(); LEG_SLOTS];
+    for leg in &mut legs[..count] {
+        leg.railway = random.pick(first.used_legs()).railway;
+        leg.fare = drawn_fare(random);
+    }
+    if random.one_in(2) {
+        legs[random.place_in(count)] = legs[random.place_in(count)];
+    }
+    Question {
+        leg_count: count as u64,
+        legs,
+        ..*first
+    }
+}
+
 fn drawn_fare(random: &mut Random) -> u64 {
     match random.below(4) {
         0 => random.pick(&[0, 1, 2, 5, 10, 760, 1010, 999_998, 999_999]),
@@ -265,6 +282,20 @@ mod tests {
             let bundle = valid_bundle(&mut random);
             assert!(question_in_limits(&mut random, &bundle).is_within_limits());
             assert!(!question_out_of_limits(&mut random, &bundle).is_within_limits());
+        }
+    }
+
+    #[test]
+    fn as_many_legs_as_asked_are_priced_where_the_first_are() {
+        let mut random = Random::from_seed(44);
+        for turn in 0..400 {
+            let bundle = valid_bundle(&mut random);
+            let first = question_in_limits(&mut random, &bundle);
+            let count = 1 + turn % LEG_SLOTS;
+            let other = with_legs(&mut random, &first, count);
+            let is_priced = |asked| matches!(fare(&bundle, asked), Fare::Priced { .. });
+            assert_eq!(other.used_slots(), count);
+            assert!(!is_priced(&first) || is_priced(&other));
         }
     }
 
