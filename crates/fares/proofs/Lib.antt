@@ -1,3 +1,4 @@
+pub mod Figures
 pub mod Grants
 pub mod Fit
 pub mod RoundLaws

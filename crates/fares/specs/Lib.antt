@@ -4,4 +4,6 @@ pub mod Reductions
 pub mod Legs
 pub mod Fare
 pub mod Meaning
+pub mod Samples
+pub mod Figures
 pub mod Helpers

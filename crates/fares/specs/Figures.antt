@@ -1,0 +1,71 @@
+-- The figures of document 01, in one list. Fares are asked of the engine itself: what it answers to a question, from a bundle that is written out.
+-- Assumes nothing.
+use Prim.Native.Nat.{ℕ, _-_, _*_}
+use mathlib.Core.Path.{_≡_}
+use mathlib.Core.Bool.{true, false}
+use mathlib.Core.List.{List, [], _∷_, _++_}
+use Rattle.common.specs.Lists.{firstOf}
+use Rattle.layout.specs.Bytes.{byte-plus, byte-minus, byte-0, byte-N, byte-Y}
+use Rattle.layout.specs.Dates.{isDay}
+use Rattle.layout.specs.Layout.{CO, RE, AR, ME, lengthOf}
+use Rattle.fares.specs.Rounding.{unit}
+use Rattle.fares.specs.Fare.{priced, fareOf}
+use Rattle.fares.specs.Samples.{grant, conditions, cardName, card, leg, ticket}
+use Rattle.fares.specs.declared.Question.{Question}
+
+-- a plain fare at a discount is so many hundred-thousandths of a cent; a question has these parts, by a bundle; a number YYYYMMDD is a day, or is none; the
+-- records of a table are so long
+pub data Figure : Type 0 where
+  exact : (fare discount amount : ℕ) → Figure
+  asked : (bundle : List ℕ) → Question → (parts : List ℕ) → Figure
+  day : ℕ → Figure
+  no-day : ℕ → Figure
+  long : (table bytes : ℕ) → Figure
+
+-- what a figure says
+abbrev pub Says : Figure → Type 0
+Says (exact fare discount amount) = fare * (unit - discount) ≡ amount
+Says (asked bundle q parts) = fareOf bundle q ≡ priced (firstOf 0 8 parts)
+Says (day d) = isDay d ≡ true
+Says (no-day d) = isDay d ≡ false
+Says (long t n) = lengthOf t ≡ n
+
+-- one person on one leg, by one CO for all railways: plain fare, discount, rounding, factor, and the fare
+abbrev pub alone : ℕ → ℕ → ℕ → ℕ → ℕ → Figure
+alone fare discount rounding factor cents = asked (conditions 0 byte-N (grant discount rounding factor)) (ticket 1 0 1 (leg 1185 fare ∷ [])) (cents ∷ [])
+
+abbrev pub figures : List Figure
+figures =
+    exact 1010 25000 75750000 ∷
+    alone 1010 25000 byte-N 0 758 ∷
+    alone 1010 25000 byte-plus 10 760 ∷
+    alone 1010 25000 byte-minus 10 750 ∷
+    alone 1010 25000 byte-0 5 760 ∷
+    alone 1010 25000 byte-0 50 750 ∷
+    alone 760 30000 byte-plus 50 550 ∷
+    alone 760 30000 byte-minus 50 500 ∷
+    alone 760 30000 byte-N 0 532 ∷
+    alone 999999 100000 byte-plus 998 0 ∷
+    alone 999999 100000 byte-minus 998 0 ∷
+    alone 999999 100000 byte-0 998 0 ∷
+    alone 999999 100000 byte-N 0 0 ∷
+    alone 999999 0 byte-plus 998 1000994 ∷
+    -- with a card of 30 % on top, N in both records; and under factor 50, which tells the order of the two
+    asked (conditions 0 byte-Y (grant 25000 byte-N 0) ++ (cardName ++ card 30000)) (ticket 1 7 1 (leg 1185 1010 ∷ [])) (531 ∷ []) ∷
+    asked (conditions 0 byte-Y (grant 25000 byte-plus 50) ++ (cardName ++ card 30000)) (ticket 1 7 1 (leg 1185 1010 ∷ [])) (560 ∷ []) ∷
+    -- without a card nothing is rounded but by the CO
+    asked (conditions 0 byte-Y (grant 25000 byte-N 0) ++ (cardName ++ card 30000)) (ticket 1 0 1 (leg 1185 1010 ∷ [])) (758 ∷ []) ∷
+    -- three persons
+    asked (conditions 0 byte-N (grant 25000 byte-N 0)) (ticket 3 0 1 (leg 1185 1010 ∷ [])) (2274 ∷ []) ∷
+    -- two railways, one with a CO of its own beside that of 0000, which is a default only
+    asked (conditions 1185 byte-N (grant 25000 byte-N 0) ++ conditions 0 byte-N (grant 0 byte-N 0)) (ticket 3 0 2 (leg 1185 1010 ∷ leg 1181 500 ∷ [])) (2274 ∷ 1500 ∷ []) ∷
+    asked (conditions 1185 byte-N (grant 25000 byte-N 0) ++ conditions 0 byte-N (grant 50000 byte-N 0)) (ticket 1 0 1 (leg 1185 1010 ∷ [])) (758 ∷ []) ∷
+    day 20240229 ∷
+    day 20000229 ∷
+    no-day 20230229 ∷
+    no-day 21000229 ∷
+    long CO 155 ∷
+    long RE 440 ∷
+    long AR 49 ∷
+    long ME 1231 ∷
+    []
