@@ -1,4 +1,4 @@
-pub mod Figures
+pub mod Computed
 pub mod Grants
 pub mod Fit
 pub mod RoundLaws

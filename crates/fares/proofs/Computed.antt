@@ -1,4 +1,4 @@
--- Every figure of the list holds: antt computes each.
+-- EVERY FIGURE of the list holds: antt computes each. (Modules are checked by their names, so that a wrong version fails here first, by its number.)
 -- Assumes nothing.
 use mathlib.Core.Path.{refl, sym, subst}
 use mathlib.Core.List.{List, [], _∷_, List·Memᴰ, List·Memᴰ·not-nil, List·Memᴰ·cases-cons}
