@@ -8,3 +8,4 @@ pub mod Meaning
 pub mod Faults
 pub mod Unique
 pub mod Chosen
+pub mod Computed

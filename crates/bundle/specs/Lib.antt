@@ -7,3 +7,5 @@ pub mod Faults
 pub mod Choice
 pub mod Chosen
 pub mod Helpers
+pub mod Samples
+pub mod Figures

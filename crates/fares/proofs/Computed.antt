@@ -16,13 +16,13 @@ use Rattle.bundle.specs.Records.{tableOf, stepOf, recordsFrom, restFrom, record
 use Rattle.bundle.specs.Keys.{otherTransferor, clash, earlierOf}
 use Rattle.bundle.specs.Links.{linkRows, isAsked, railwayServes, joins, serves, missingLink}
 use Rattle.bundle.specs.Choice.{isOf, choiceOf}
+use Rattle.bundle.specs.Samples.{digits, year, conditions, cardName, card}
 use Rattle.bundle.specs.Verdict.{firstPass, secondPass, checks}
 use Rattle.fares.specs.Question.{inLimits}
 use Rattle.fares.specs.Rounding.{rounded, upwards, downwards, nearest}
 use Rattle.fares.specs.Reductions.{reduceBy, reduceAll}
 use Rattle.fares.specs.Legs.{chosen, personsFit, unread, firstSet, partBy}
 use Rattle.fares.specs.Fare.{partsOf, priceChecks, fareChecks, fareOf}
-use Rattle.fares.specs.Samples.{digits, year, conditions, cardName, card}
 use Rattle.fares.specs.Figures.{Figure, Says, figures}
 
 abbrev All : List Figure → Type 0

@@ -10,7 +10,8 @@ use Rattle.layout.specs.Dates.{isDay}
 use Rattle.layout.specs.Layout.{CO, RE, AR, ME, lengthOf}
 use Rattle.fares.specs.Rounding.{unit}
 use Rattle.fares.specs.Fare.{priced, fareOf}
-use Rattle.fares.specs.Samples.{grant, conditions, cardName, card, leg, ticket}
+use Rattle.bundle.specs.Samples.{grant, conditions, cardName, card}
+use Rattle.fares.specs.Samples.{leg, ticket}
 use Rattle.fares.specs.declared.Question.{Question}
 
 -- a plain fare at a discount is so many hundred-thousandths of a cent; a question has these parts, by a bundle; a number YYYYMMDD is a day, or is none; the
@@ -51,10 +52,10 @@ figures =
     alone 999999 100000 byte-N 0 0 ∷
     alone 999999 0 byte-plus 998 1000994 ∷
     -- with a card of 30 % on top, N in both records; and under factor 50, which tells the order of the two
-    asked (conditions 0 byte-Y (grant 25000 byte-N 0) ++ (cardName ++ card 30000)) (ticket 1 7 1 (leg 1185 1010 ∷ [])) (531 ∷ []) ∷
-    asked (conditions 0 byte-Y (grant 25000 byte-plus 50) ++ (cardName ++ card 30000)) (ticket 1 7 1 (leg 1185 1010 ∷ [])) (560 ∷ []) ∷
+    asked (conditions 0 byte-Y (grant 25000 byte-N 0) ++ (cardName ++ card 30000 byte-N 0)) (ticket 1 7 1 (leg 1185 1010 ∷ [])) (531 ∷ []) ∷
+    asked (conditions 0 byte-Y (grant 25000 byte-plus 50) ++ (cardName ++ card 30000 byte-N 0)) (ticket 1 7 1 (leg 1185 1010 ∷ [])) (560 ∷ []) ∷
     -- without a card nothing is rounded but by the CO
-    asked (conditions 0 byte-Y (grant 25000 byte-N 0) ++ (cardName ++ card 30000)) (ticket 1 0 1 (leg 1185 1010 ∷ [])) (758 ∷ []) ∷
+    asked (conditions 0 byte-Y (grant 25000 byte-N 0) ++ (cardName ++ card 30000 byte-N 0)) (ticket 1 0 1 (leg 1185 1010 ∷ [])) (758 ∷ []) ∷
     -- three persons
     asked (conditions 0 byte-N (grant 25000 byte-N 0)) (ticket 3 0 1 (leg 1185 1010 ∷ [])) (2274 ∷ []) ∷
     -- two railways, one with a CO of its own beside that of 0000, which is a default only

@@ -1,49 +1,11 @@
--- Records written out, byte by byte, in the order of their fields: what figures are asked of. All are of transferor 1185 and offer 42, and of the year 2024.
+-- Questions on 15 June 2024, for offer 42: what figures are asked of.
 -- Assumes nothing.
-use Prim.Native.Nat.{ℕ, zero, suc, _+_, _/_, _%_}
-use mathlib.Core.List.{List, [], _∷_, _++_}
-use lib.ListN.{replicate}
-use Rattle.common.specs.Digits.{digit-0}
-use Rattle.layout.specs.Bytes.{byte-blank, byte-A, byte-C, byte-E, byte-N, byte-O, byte-R}
+use Prim.Native.Nat.{ℕ}
+use mathlib.Core.List.{List}
 use Rattle.fares.specs.declared.Leg.{Leg}
 use Rattle.fares.specs.declared.Question.{Question}
 
--- a number in so many digits
-unfoldable pub digits : ℕ → ℕ → List ℕ
-digits zero n = []
-digits (suc width) n = digits width (n / 10) ++ ((digit-0 + n % 10) ∷ [])
-
-abbrev pub text : ℕ → List ℕ
-text width = replicate width byte-blank
-
--- first day, version, last day
-unfoldable pub year : List ℕ
-year = digits 8 20240101 ++ (digits 2 1 ++ digits 8 20241231)
-
--- discount, rounding, factor
-abbrev pub grant : ℕ → ℕ → ℕ → List ℕ
-grant discount rounding factor = digits 6 discount ++ (rounding ∷ digits 3 factor)
-
--- a CO of a railway, with flag 33, that grants this; its text, field 27 and the persons are blank
-unfoldable pub conditions : ℕ → ℕ → List ℕ → List ℕ
-conditions railway flag-33 granted =
-    byte-C ∷ byte-O ∷
-    (digits 4 1185 ++ (digits 5 42 ++ (digits 4 railway ++ (text 105 ++ (digits 1 0 ++
-    (byte-N ∷ byte-N ∷ flag-33 ∷ byte-N ∷ byte-N ∷ byte-N ∷ byte-N ∷ byte-N ∷
-    (granted ++ year)))))))
-
--- the RE of card 7
-unfoldable pub cardName : List ℕ
-cardName = byte-R ∷ byte-E ∷ (digits 4 1185 ++ (digits 3 7 ++ (text 415 ++ year)))
-
--- an AR of card 7 for all railways, that takes a discount and rounds by N
-unfoldable pub card : ℕ → List ℕ
-card discount =
-    byte-A ∷ byte-R ∷
-    (digits 4 1185 ++ (digits 5 42 ++ (digits 4 0 ++ (digits 3 7 ++ (digits 6 discount ++
-    (byte-N ∷ (digits 3 1 ++ (byte-N ∷ byte-N ∷ (digits 3 0 ++ year)))))))))
-
--- a question on 15 June 2024: how many legs, and these
+-- persons, card, how many legs, and these
 abbrev pub leg : ℕ → ℕ → Leg
 leg railway fare = record { railway = railway; fare = fare }
 
