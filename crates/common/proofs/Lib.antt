@@ -6,3 +6,4 @@ pub mod Parts
 pub mod Digits
 pub mod Sums
 pub mod Checks
+pub mod Listed

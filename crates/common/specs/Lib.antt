@@ -3,3 +3,4 @@ pub mod Lists
 pub mod Digits
 pub mod Checks
 pub mod Helpers
+pub mod OneAnswer

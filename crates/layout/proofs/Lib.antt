@@ -1,3 +1,5 @@
+pub mod Figures
+pub mod Calendar
 pub mod Tables
 pub mod BrokenField
 pub mod RowLoops

@@ -1,7 +1,9 @@
 pub mod Bytes
 pub mod Company
 pub mod Dates
+pub mod Calendar
 pub mod Layout
 pub mod Fields
+pub mod Figures
 pub mod Rules
 pub mod Helpers

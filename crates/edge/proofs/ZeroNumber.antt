@@ -1,0 +1,56 @@
+-- The number that C gets is 0 exactly where the call is answered: a refusal has a number of its call's table, and none of these is 0.
+-- Assumes nothing.
+use Prim.Native.Nat.{ℕ}
+use mathlib.Core.Path.{_≡_, refl}
+use mathlib.Core.List.{List}
+use mathlib.Core.Bool.{false}
+use native.Mathlib.Omega.{arith}
+use lib.Dec.{eqb}
+use Rattle.common.specs.Lists.{any}
+use Rattle.common.specs.declared.Refusal.{Refusal}
+use Rattle.common.proofs.Tests.{never}
+use Rattle.fares.specs.Fare.{fareOf}
+use Rattle.fares.specs.declared.Question.{Question}
+use Rattle.bundle.specs.Verdict.{verdictOf}
+use Rattle.sales.specs.Sales.{saleAnswer, cancelAnswer}
+use Rattle.sales.specs.Balances.{balanceAnswer, totalAnswer}
+use Rattle.offers.specs.Answers.{Told, answers, refuses, Among, verdictTells, fareTells, receiptTells, sumTells}
+use Rattle.offers.specs.Answers.{verdictNumbers, fareNumbers, saleNumbers, cancelNumbers, balanceNumbers, totalNumbers}
+use Rattle.offers.proofs.Promises.{the-numbers-of-a-verdict, the-numbers-of-a-fare, the-numbers-of-a-sale}
+use Rattle.offers.proofs.Promises.{the-numbers-of-a-cancellation, the-numbers-of-a-balance, the-numbers-of-a-total}
+use Rattle.edge.specs.Replies.{refusalIn, judgementReply, quoteReply, receiptReply, sumReply}
+use Rattle.edge.specs.ZeroNumber.{ZeroIfAnswered}
+
+-- where 0 is not among the numbers that a refusal can have
+by-number : (ns : List ℕ) → any (eqb 0) ns ≡ false → (t : Told) → ((why : Refusal) (us : List ℕ) → t ≡ refuses why us → Among ns (why .number))
+    → ZeroIfAnswered (refusalIn t .number) t
+by-number ns none (answers us) among = record { zero-is-answered = λ z. (us, refl); answered-is-zero = λ vs e. refl }
+by-number ns none (refuses why us) among = record {
+  zero-is-answered = λ z. never (rw z at (among why us refl)) none;
+  answered-is-zero = λ vs e. let z : _≡_ {A = ℕ} 0 1 = cc in absurd (omega arith);
+}
+
+pub zero-if-judged : (bundle : List ℕ) → let t = verdictTells (verdictOf bundle) in ZeroIfAnswered (judgementReply t .number) t
+unfolding judgementReply any
+zero-if-judged bundle = by-number verdictNumbers refl _ (the-numbers-of-a-verdict bundle)
+
+pub zero-if-priced : (bundle : List ℕ) (q : Question) → let t = fareTells (fareOf bundle q) in ZeroIfAnswered (quoteReply t .number) t
+unfolding quoteReply any
+zero-if-priced bundle q = by-number fareNumbers refl _ (the-numbers-of-a-fare bundle q)
+
+pub zero-if-sold : (book : List ℕ) (till sequence : ℕ) (bundle : List ℕ) (q : Question) → let t = receiptTells (saleAnswer book till sequence bundle q) in
+    ZeroIfAnswered (receiptReply t .number) t
+unfolding receiptReply any
+zero-if-sold book till sequence bundle q = by-number saleNumbers refl _ (the-numbers-of-a-sale book till sequence bundle q)
+
+pub zero-if-cancelled : (book : List ℕ) (till sequence : ℕ) → let t = receiptTells (cancelAnswer book till sequence) in ZeroIfAnswered (receiptReply t .number) t
+unfolding receiptReply any
+zero-if-cancelled book till sequence = by-number cancelNumbers refl _ (the-numbers-of-a-cancellation book till sequence)
+
+pub zero-if-balanced : (book : List ℕ) (railway : ℕ) → let t = sumTells (balanceAnswer book railway) in ZeroIfAnswered (sumReply t .number) t
+unfolding sumReply any
+zero-if-balanced book railway = by-number balanceNumbers refl _ (the-numbers-of-a-balance book railway)
+
+pub zero-if-totalled : (book : List ℕ) → let t = sumTells (totalAnswer book) in ZeroIfAnswered (sumReply t .number) t
+unfolding sumReply any
+zero-if-totalled book = by-number totalNumbers refl _ (the-numbers-of-a-total book)
