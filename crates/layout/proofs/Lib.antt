@@ -1,6 +1,9 @@
 pub mod Figures
 pub mod Calendar
 pub mod Tables
+pub mod Flags
 pub mod BrokenField
 pub mod RowLoops
 pub mod Companies
+pub mod Values
+pub mod Readings

@@ -7,10 +7,10 @@ use mathlib.Core.Bool.{Bool, true, false, cond, not, _&&_, _||_}
 use mathlib.Core.List.{List, [], _∷_, map}
 use mathlib.Core.Logic.{⊎-elim}
 use native.Mathlib.Omega.{arith}
-use lib.Dec.{eqb, leb, ltb}
+use lib.Dec.{eqb, ltb}
 use lib.ListN.{length, take, drop, List·getD-eq-default}
 use lib.Seq.{drop-drop}
-use borrow.Author.Tests.{not-true, not-false, eqb-true, leb-true, ltb-true, eq-eqb, ne-eqb}
+use borrow.Author.Tests.{not-false, eqb-true, ltb-true, eq-eqb, ne-eqb}
 use Rattle.common.specs.Least.{least}
 use Rattle.common.specs.Lists.{every, any, same, sum}
 use Rattle.common.proofs.Least.{before}
@@ -18,7 +18,7 @@ use Rattle.common.specs.Digits.{numberOf, valueOf, isWithin}
 use Rattle.common.proofs.Lists.{same-is, same-parts}
 use Rattle.common.proofs.Tests.{never, both-true, side}
 use Rattle.layout.specs.Layout.{CO, NUMBER, FIRST-DAY, LAST-DAY, Table, noTable, tables, tableCount, tableAt, endOf, lengthOf, standFrom, numbers}
-use Rattle.layout.specs.Fields.{fieldAt, bytesIn, rowWith, rowOf, bytesOf, transferorOf, ofOffers, offerOf, railwayOf, codeOf, codeFits, sameKey, dayRow, hasPeriod, isFlagRow}
+use Rattle.layout.specs.Fields.{fieldAt, bytesIn, rowWith, rowOf, bytesOf, transferorOf, ofOffers, offerOf, railwayOf, codeOf, codeFits, sameKey, dayRow, hasPeriod}
 use Rattle.layout.specs.Company.{isCompany}
 use Rattle.layout.specs.Rules.{ruled, keptBeside, keepsRow, firstBroken, brokenField, keepsRules}
 use Rattle.layout.specs.Helpers.{asRow, noSpan, codeSpan, keyLength}
@@ -170,33 +170,6 @@ period t h =
       last = eqb-true _ _ (computed (λ u. eqb (dayRow LAST-DAY u .start) (lengthOf u - 7)) tableCount refl t h);
       last-long = eqb-true _ _ (computed (λ u. eqb (dayRow LAST-DAY u .length) 8) tableCount refl t h);
     }
-
--- THE FLAGS OF CO: field 27, and fields 31 to 38 one behind the other
-pub flags-stand : (k : ℕ) → k < 8 → (isFlagRow (rowOf CO (31 + k)) ≡ true) × (rowOf CO (31 + k) .start ≡ 120 + k)
-unfolding least rowOf rowWith tableAt tables
-flags-stand k h = (computed (λ j. isFlagRow (rowOf CO (31 + j))) 8 refl k h, eqb-true _ _ (computed (λ j. eqb (rowOf CO (31 + j) .start) (120 + j)) 8 refl k h))
-
-pub no-flag-before : (f : ℕ) → f < 31 → (f ≡ 27 → ⊥) → isFlagRow (rowOf CO f) ≡ false
-unfolding least rowOf rowWith tableAt tables
-no-flag-before f h n = not-true _ (rw (ne-eqb f 27 n) at (computed (λ g. eqb g 27 || not (isFlagRow (rowOf CO g))) 31 refl f h))
-
-none-beyond : (f : ℕ) → 38 < f → (rs : List Row) → every (λ (r : Row). not (isFlagRow r) || leb (r .field) 38) rs ≡ true
-    → isFlagRow (rowWith (λ r. eqb (r .field) f) rs) ≡ false
-unfolding every rowWith
-none-beyond f h [] e = refl
-none-beyond f h (r ∷ rs) e =
-    let d = both-true (not (isFlagRow r) || leb (r .field) 38) _ e in
-    go (eqb (r .field) f) refl (isFlagRow r) refl (d .0) (none-beyond f h rs (d .1))
-  where
-    go : (b : Bool) → eqb (r .field) f ≡ b → (g : Bool) → isFlagRow r ≡ g → (not g || leb (r .field) 38) ≡ true
-        → isFlagRow (rowWith (λ r. eqb (r .field) f) rs) ≡ false → isFlagRow (cond b r (rowWith (λ r. eqb (r .field) f) rs)) ≡ false
-    go true q true p k ih = absurd (omega (arith, eqb-true (r .field) f q, leb-true (r .field) 38 k))
-    go true q false p k ih = p
-    go false q g p k ih = ih
-
-pub no-flag-behind : (f : ℕ) → 38 < f → isFlagRow (rowOf CO f) ≡ false
-unfolding rowOf every tableAt tables
-no-flag-behind f h = none-beyond f h (tableAt CO .rows) refl
 
 -- A KEPT RECORD keeps the row of each field that its table has
 first-with : (p q : Row → Bool) (rs : List Row) → every q rs ≡ true → any p rs ≡ true → q (rowWith p rs) ≡ true

@@ -6,4 +6,5 @@ pub mod Layout
 pub mod Fields
 pub mod Figures
 pub mod Rules
+pub mod Values
 pub mod Helpers

@@ -6,7 +6,7 @@ use native.Mathlib.Omega.{arith}
 use borrow.Author.Needs.{needs}
 use Rattle.layout.specs.Layout.{tableAt, tables}
 use Rattle.layout.specs.Fields.{rowWith, rowOf, byteOf, isYes}
-use Rattle.layout.proofs.Tables.{flags-stand, no-flag-before, no-flag-behind}
+use Rattle.layout.proofs.Flags.{flags-stand, no-flag-before, no-flag-behind}
 use Rattle.layout.proofs.fields.is_yes.Statement.{statement}
 use Rattle.layout.proofs.fields.is_yes.Tie as tie
 
