@@ -35,6 +35,7 @@ module _ {A : Type 0} (p : A → Bool) where
   any-listed [] e = never e refl
   any-listed (y ∷ ys) e = go (p y) refl e (any-listed ys)
     where
-      go : (b : Bool) → p y ≡ b → (b || any p ys) ≡ true → (any p ys ≡ true → (x : A) × List·Memᴰ x ys × (p x ≡ true)) → (x : A) × List·Memᴰ x (y ∷ ys) × (p x ≡ true)
+      go : (b : Bool) → p y ≡ b → (b || any p ys) ≡ true → (any p ys ≡ true → (x : A) × List·Memᴰ x ys × (p x ≡ true))
+          → (x : A) × List·Memᴰ x (y ∷ ys) × (p x ≡ true)
       go true q h f = (y, List·Memᴰ·head refl, q)
       go false q h f = let w = f h in (w .0, List·Memᴰ·tail (w .1), w .2)

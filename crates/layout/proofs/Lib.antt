@@ -5,5 +5,6 @@ pub mod Flags
 pub mod BrokenField
 pub mod RowLoops
 pub mod Companies
+pub mod Meanings
 pub mod Values
 pub mod Readings

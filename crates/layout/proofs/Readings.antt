@@ -12,10 +12,13 @@ use borrow.Author.Tests.{eqb-true, eq-eqb}
 use Rattle.common.specs.Digits.{numberOf, digitsAfter, valueOf}
 use Rattle.common.specs.declared.Num.the-variants.{Not}
 use Rattle.common.proofs.Tests.{either-way}
+use Rattle.common.proofs.Lists.{same-is, is-same}
 use Rattle.layout.specs.Bytes.{byte-blank, byte-Y}
+use Rattle.layout.specs.Company.{isAllRailways, isRailway}
 use Rattle.layout.specs.Layout.{CO, tables, tableAt}
 use Rattle.layout.specs.Fields.{rowWith, rowOf, bytesOf, byteOf, numberIn, isFlagRow, isYes}
-use Rattle.layout.specs.Values.{Blank, Within, Readings}
+use Rattle.layout.specs.Values.{Blank, Within, Readings, Railways}
+use Rattle.layout.proofs.Meanings.{between}
 use Rattle.layout.proofs.Flags.{flags-stand}
 
 set-if-Y : (t f : ℕ) (body : List ℕ) → isFlagRow (rowOf t f) ≡ true → (isYes t f body ≡ true) ↔ (byteOf t f body ≡ byte-Y)
@@ -39,3 +42,7 @@ readings body = record {
   digits = λ t f n e. ap valueOf e;
   blanks = λ t f b. blank-is-0 (bytesOf t f body) b;
 }
+
+pub railways : Railways
+unfolding isAllRailways isRailway
+railways = record { for-all = λ s. (same-is s _, is-same s _); asked = λ railway. between 1 railway 9999 }

@@ -1,11 +1,13 @@
 -- The layout in figures: what source document 001 says of each table (Appendices C, H, I and O), the keys of document 01, and the calendar's months.
 -- Assumes nothing.
-use Prim.Native.Nat.{ℕ, _+_}
+use Prim.Native.Nat.{ℕ, _+_, _≤_}
 use mathlib.Core.Path.{_≡_}
+use mathlib.Core.Bool.{true}
 use mathlib.Core.List.{List, [], _∷_, _++_, map}
-use Rattle.common.specs.Lists.{every, sum, same, upTo}
+use mathlib.Core.Logic.{_↔_}
+use Rattle.common.specs.Lists.{sum, upTo}
 use Rattle.layout.specs.Layout.{CO, RE, AR, ME, tableAt, lengthOf}
-use Rattle.layout.specs.Fields.{bytesOf, offerOf, railwayOf, codeOf, sameKey}
+use Rattle.layout.specs.Fields.{bytesOf, numberIn, offerOf, railwayOf, codeOf, sameKey, holdsDay}
 use Rattle.layout.specs.Dates.{monthLength}
 use Rattle.layout.specs.declared.rows.Row.{Row}
 
@@ -26,25 +28,32 @@ pub data Figure : Type 0 where
   long : (table bytes : ℕ) → Figure
   -- its fields are so long, from position 1 on
   fields : (table : ℕ) → List (ℕ × List ℕ) → Figure
-  -- its code is this field
+  -- its code is this field, 0 where it has none
   coded : (table field : ℕ) → Figure
-  -- two of its records have the same key where each of these is the same
+  -- two of its records have the same key exactly if each of these is the same in both
   keyed : (table : ℕ) → List (List ℕ → List ℕ) → Figure
+  -- the period of its records is from the day of the one field to that of the other, both inside
+  period : (table first last : ℕ) → Figure
   -- the months of a year are so long
   months : (year : ℕ) → List ℕ → Figure
   -- so many years have so many days
   years : (first count days : ℕ) → Figure
 
--- what a figure says
+abbrev pub Alike : List (List ℕ → List ℕ) → List ℕ → List ℕ → Type 0
+Alike [] a b = Unit
+Alike (part ∷ parts) a b = (part a ≡ part b) × Alike parts a b
+
 abbrev pub monthsOf : ℕ → List ℕ
 monthsOf year = upTo (λ m. monthLength year (m + 1)) 12
 
+-- what a figure says
 abbrev pub Says : Figure → Type 0
 Says (marked t a b) = tableAt t .mark ≡ a ∷ b ∷ []
 Says (long t n) = lengthOf t ≡ n
 Says (fields t runs) = map (λ (r : Row). r .field ∷ r .start ∷ r .length ∷ []) (tableAt t .rows) ≡ inRuns 1 runs
 Says (coded t f) = (body : List ℕ) → codeOf t body ≡ bytesOf t f body
-Says (keyed t parts) = (a b : List ℕ) → sameKey t a b ≡ every (λ part. same (part a) (part b)) parts
+Says (keyed t parts) = (a b : List ℕ) → (sameKey t a b ≡ true) ↔ Alike parts a b
+Says (period t first last) = (body : List ℕ) (day : ℕ) → (holdsDay t body day ≡ true) ↔ ((numberIn t first body ≤ day) × (day ≤ numberIn t last body))
 Says (months year lengths) = monthsOf year ≡ lengths
 Says (years first count days) = sum (upTo (λ k. sum (monthsOf (first + k))) count) ≡ days
 
@@ -66,12 +75,18 @@ figures =
     fields RE ((1, 4 ∷ 3 ∷ 30 ∷ 30 ∷ 30 ∷ 30 ∷ 30 ∷ 265 ∷ 8 ∷ 2 ∷ 8 ∷ []) ∷ []) ∷
     fields AR ((1, 4 ∷ 5 ∷ 4 ∷ 3 ∷ 6 ∷ 1 ∷ 3 ∷ 1 ∷ 1 ∷ 3 ∷ 8 ∷ 2 ∷ 8 ∷ []) ∷ []) ∷
     fields ME ((1, 4 ∷ 5 ∷ 4 ∷ 240 ∷ 240 ∷ 240 ∷ 240 ∷ 240 ∷ 8 ∷ 2 ∷ 8 ∷ []) ∷ []) ∷
+    coded CO 0 ∷
     coded RE 2 ∷
     coded AR 4 ∷
+    coded ME 0 ∷
     keyed CO (offerOf ∷ railwayOf ∷ []) ∷
     keyed ME (offerOf ∷ railwayOf ∷ []) ∷
     keyed RE (codeOf RE ∷ []) ∷
     keyed AR (offerOf ∷ railwayOf ∷ codeOf AR ∷ []) ∷
+    period CO 42 44 ∷
+    period RE 9 11 ∷
+    period AR 11 13 ∷
+    period ME 9 11 ∷
     months 2023 (31 ∷ 28 ∷ 31 ∷ 30 ∷ 31 ∷ 30 ∷ 31 ∷ 31 ∷ 30 ∷ 31 ∷ 30 ∷ 31 ∷ []) ∷
     months 2024 (31 ∷ 29 ∷ 31 ∷ 30 ∷ 31 ∷ 30 ∷ 31 ∷ 31 ∷ 30 ∷ 31 ∷ 30 ∷ 31 ∷ []) ∷
     years 2000 400 146097 ∷

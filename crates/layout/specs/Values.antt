@@ -2,7 +2,7 @@
 -- Assumes nothing.
 use Prim.Native.Nat.{ℕ, _+_, _-_, _≤_, _<_}
 use mathlib.Core.Path.{_≡_}
-use mathlib.Core.List.{List, _++_}
+use mathlib.Core.List.{List, [], _∷_, _++_}
 use mathlib.Core.Bool.{true}
 use mathlib.Core.Logic.{_⊎_, _↔_}
 use lib.ListN.{length, getD}
@@ -10,6 +10,7 @@ use Rattle.common.specs.Lists.{upTo}
 use Rattle.common.specs.Digits.{numberOf}
 use Rattle.common.specs.declared.Num.the-variants.{Is}
 use Rattle.layout.specs.Bytes.{byte-blank, byte-plus, byte-minus, byte-0, byte-N, byte-Y}
+use Rattle.layout.specs.Company.{isAllRailways, isRailway}
 use Rattle.layout.specs.Layout.{CO, RE, AR, ME}
 use Rattle.layout.specs.Fields.{bytesOf, byteOf, numberIn, isYes}
 use Rattle.layout.specs.Calendar.{RealDay}
@@ -112,3 +113,8 @@ pub record Readings (body : List ℕ) : Type 0 where
   pub flags : (f : ℕ) → (f ≡ 27) ⊎ Within 31 38 f → (isYes CO f body ≡ true) ↔ (byteOf CO f body ≡ byte-Y)
   pub digits : (t f n : ℕ) → numberOf (bytesOf t f body) ≡ Is n → numberIn t f body ≡ n
   pub blanks : (t f : ℕ) → Blank (bytesOf t f body) → numberIn t f body ≡ 0
+
+-- "railway 0000-9999 (0000 = all railways)"; a railway is asked for by a number 1-9999
+pub record Railways : Type 0 where
+  pub for-all : (s : List ℕ) → (isAllRailways s ≡ true) ↔ (s ≡ byte-0 ∷ byte-0 ∷ byte-0 ∷ byte-0 ∷ [])
+  pub asked : (railway : ℕ) → (isRailway railway ≡ true) ↔ Within 1 9999 railway
