@@ -5,6 +5,7 @@ use mathlib.Core.Path.{refl}
 use mathlib.Core.List.{List, [], _∷_, List·Memᴰ}
 use lib.ListN.{drop}
 use Rattle.common.specs.Lists.{every, any, sum, same, upTo}
+use Rattle.common.specs.Digits.{digitsAfter, numberOf}
 use Rattle.common.proofs.Listed.{All, each}
 use Rattle.common.proofs.Lists.{same-is, is-same}
 use Rattle.common.proofs.Tests.{both-true}
@@ -24,10 +25,14 @@ alike-means (part ∷ parts) a b =
       λ w. both _ _ (is-same _ _ (w .0)) (f .1 (w .1)),
     )
 
--- THE FIGURES, each of which antt computes: of the calendar, of periods, of keys, and of marks, lengths, fields and codes.
+-- THE FIGURES, each of which antt computes: of letters and digits, of the calendar, of periods, of keys, and of marks, lengths, fields and codes.
+of-bytes : All Says (drop 27 figures)
+unfolding numberOf digitsAfter
+of-bytes = (refl, (refl, (refl, (refl, (refl, (refl, (refl, (refl, tt))))))))
+
 of-calendar : All Says (drop 24 figures)
 unfolding sum upTo monthLengths monthLength
-of-calendar = (refl, (refl, (refl, tt)))
+of-calendar = (refl, (refl, (refl, of-bytes)))
 
 of-periods : All Says (drop 20 figures)
 unfolding tables tableAt any rowWith bytesOf rowOf numberIn dayRow hasPeriod firstDay lastDay holdsDay

@@ -1,4 +1,5 @@
--- The layout in figures: what source document 001 says of each table (Appendices C, H, I and O), the keys of document 01, and the calendar's months.
+-- The layout in figures: what source document 001 says of each table (Appendices C, H, I and O), the keys of document 01, the calendar's months, and the
+-- letters and digits of a field.
 -- Assumes nothing.
 use Prim.Native.Nat.{ℕ, _+_, _≤_}
 use mathlib.Core.Path.{_≡_}
@@ -6,6 +7,9 @@ use mathlib.Core.Bool.{true}
 use mathlib.Core.List.{List, [], _∷_, _++_, map}
 use mathlib.Core.Logic.{_↔_}
 use Rattle.common.specs.Lists.{sum, upTo}
+use Rattle.common.specs.Digits.{numberOf}
+use Rattle.common.specs.declared.Num.the-variants.{Is}
+use Rattle.layout.specs.Bytes.{byte-blank, byte-plus, byte-minus, byte-0, byte-N, byte-Y}
 use Rattle.layout.specs.Layout.{CO, RE, AR, ME, tableAt, lengthOf}
 use Rattle.layout.specs.Fields.{bytesOf, numberIn, offerOf, railwayOf, codeOf, sameKey, holdsDay}
 use Rattle.layout.specs.Dates.{monthLength}
@@ -38,6 +42,10 @@ pub data Figure : Type 0 where
   months : (year : ℕ) → List ℕ → Figure
   -- so many years have so many days
   years : (first count days : ℕ) → Figure
+  -- a letter or sign has this number in ISO 8859-1
+  letter : (byte code : ℕ) → Figure
+  -- some bytes say this number
+  digits : (bytes : List ℕ) (number : ℕ) → Figure
 
 abbrev pub Alike : List (List ℕ → List ℕ) → List ℕ → List ℕ → Type 0
 Alike [] a b = Unit
@@ -56,6 +64,8 @@ Says (keyed t parts) = (a b : List ℕ) → (sameKey t a b ≡ true) ↔ Alike p
 Says (period t first last) = (body : List ℕ) (day : ℕ) → (holdsDay t body day ≡ true) ↔ ((numberIn t first body ≤ day) × (day ≤ numberIn t last body))
 Says (months year lengths) = monthsOf year ≡ lengths
 Says (years first count days) = sum (upTo (λ k. sum (monthsOf (first + k))) count) ≡ days
+Says (letter byte code) = byte ≡ code
+Says (digits bytes n) = numberOf bytes ≡ Is n
 
 -- The fields 4 to 26 of CO are read as one text, field 4.
 abbrev pub figures : List Figure
@@ -90,4 +100,12 @@ figures =
     months 2023 (31 ∷ 28 ∷ 31 ∷ 30 ∷ 31 ∷ 30 ∷ 31 ∷ 31 ∷ 30 ∷ 31 ∷ 30 ∷ 31 ∷ []) ∷
     months 2024 (31 ∷ 29 ∷ 31 ∷ 30 ∷ 31 ∷ 30 ∷ 31 ∷ 31 ∷ 30 ∷ 31 ∷ 30 ∷ 31 ∷ []) ∷
     years 2000 400 146097 ∷
+    letter byte-blank 32 ∷
+    letter byte-plus 43 ∷
+    letter byte-minus 45 ∷
+    letter byte-0 48 ∷
+    letter byte-N 78 ∷
+    letter byte-Y 89 ∷
+    digits (48 ∷ 50 ∷ 53 ∷ 48 ∷ 48 ∷ 48 ∷ []) 25000 ∷
+    digits (49 ∷ 50 ∷ 51 ∷ 52 ∷ 53 ∷ 54 ∷ 55 ∷ 56 ∷ 57 ∷ []) 123456789 ∷
     []
