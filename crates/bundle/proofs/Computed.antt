@@ -1,12 +1,12 @@
 -- EVERY FIGURE of the list holds: antt computes each verdict.
 -- Assumes nothing.
-use mathlib.Core.Path.{refl, sym, subst}
-use mathlib.Core.List.{List, [], _∷_, List·Memᴰ, List·Memᴰ·not-nil, List·Memᴰ·cases-cons}
-use mathlib.Core.Logic.{⊎-elim}
+use mathlib.Core.Path.{refl}
+use mathlib.Core.List.{List·Memᴰ}
 use Rattle.common.specs.Least.{least}
 use Rattle.common.specs.Lists.{every, any, same}
 use Rattle.common.specs.Digits.{digitsAfter, numberOf}
 use Rattle.common.specs.Checks.{firstFault, eachFrom}
+use Rattle.common.proofs.Listed.{each}
 use Rattle.layout.specs.Company.{isCompany, isAllRailways, isTransferor}
 use Rattle.layout.specs.Dates.{isDay, monthLength, monthLengths}
 use Rattle.layout.specs.Layout.{lengthOf, endOf, tableAt, tables}
@@ -19,15 +19,7 @@ use Rattle.bundle.specs.Samples.{digits, year, conditions, cardName, car
 use Rattle.bundle.specs.Verdict.{firstPass, secondPass, checks, verdictOf}
 use Rattle.bundle.specs.Figures.{Figure, Says, figures}
 
-abbrev All : List Figure → Type 0
-All [] = Unit
-All (x ∷ xs) = Says x × All xs
-
-each : (xs : List Figure) → All xs → (x : Figure) → List·Memᴰ x xs → Says x
-each [] a x m = absurd (List·Memᴰ·not-nil m)
-each (y ∷ ys) a x m = ⊎-elim (λ e. subst Says (sym e) (a .0)) (λ n. each ys (a .1) x n) (List·Memᴰ·cases-cons m)
-
 -- THE FIGURES
-pub figures-hold : (x : Figure) → List·Memᴰ x figures → Says x
+pub verdict-figures-hold : (x : Figure) → List·Memᴰ x figures → Says x
 unfolding least every any same digitsAfter numberOf firstFault eachFrom isCompany isAllRailways isTransferor isDay monthLength monthLengths lengthOf endOf tableAt tables rowWith rowOf bytesOf byteOf isYes transferorOf offerOf railwayOf codeOf sameKey dayRow numberOrBlank mostPersons factorRule firstDayRule lastDayRule ruled keptBeside keepsRow firstBroken brokenField tableOf stepOf recordsFrom restFrom recordsOf restOf otherTransferor clash earlierOf linkRows isAsked railwayServes joins serves missingLink firstPass secondPass checks digits year conditions cardName card verdictOf
-figures-hold = each figures (refl, (refl, (refl, (refl, (refl, (refl, (refl, (refl, (refl, (refl, tt))))))))))
+verdict-figures-hold = each Says figures (refl, (refl, (refl, (refl, (refl, (refl, (refl, (refl, (refl, (refl, tt))))))))))

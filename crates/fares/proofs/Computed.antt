@@ -1,12 +1,12 @@
 -- EVERY FIGURE of the list holds: antt computes each. (Modules are checked by their names, so that a wrong version fails here first, by its number.)
 -- Assumes nothing.
-use mathlib.Core.Path.{refl, sym, subst}
-use mathlib.Core.List.{List, [], _∷_, List·Memᴰ, List·Memᴰ·not-nil, List·Memᴰ·cases-cons}
-use mathlib.Core.Logic.{⊎-elim}
+use mathlib.Core.Path.{refl}
+use mathlib.Core.List.{List·Memᴰ}
 use Rattle.common.specs.Least.{least}
 use Rattle.common.specs.Lists.{every, any, same, sum, firstOf}
 use Rattle.common.specs.Digits.{digitsAfter, numberOf}
 use Rattle.common.specs.Checks.{firstFault, eachFrom}
+use Rattle.common.proofs.Listed.{each}
 use Rattle.layout.specs.Company.{isCompany, isAllRailways, isTransferor, companyOf, isRailway}
 use Rattle.layout.specs.Dates.{isDay, monthLength, monthLengths}
 use Rattle.layout.specs.Layout.{lengthOf, endOf, tableAt, tables}
@@ -25,15 +25,7 @@ use Rattle.fares.specs.Legs.{chosen, personsFit, unread, firstSet, partB
 use Rattle.fares.specs.Fare.{partsOf, priceChecks, fareChecks, fareOf}
 use Rattle.fares.specs.Figures.{Figure, Says, figures}
 
-abbrev All : List Figure → Type 0
-All [] = Unit
-All (x ∷ xs) = Says x × All xs
-
-each : (xs : List Figure) → All xs → (x : Figure) → List·Memᴰ x xs → Says x
-each [] a x m = absurd (List·Memᴰ·not-nil m)
-each (y ∷ ys) a x m = ⊎-elim (λ e. subst Says (sym e) (a .0)) (λ n. each ys (a .1) x n) (List·Memᴰ·cases-cons m)
-
 -- THE FIGURES
-pub figures-hold : (x : Figure) → List·Memᴰ x figures → Says x
+pub fare-figures-hold : (x : Figure) → List·Memᴰ x figures → Says x
 unfolding least every any same sum firstOf digitsAfter numberOf firstFault eachFrom isCompany isAllRailways isTransferor companyOf isRailway isDay monthLength monthLengths lengthOf endOf tableAt tables rowWith rowOf bytesOf byteOf numberIn isYes transferorOf offerOf railwayOf codeOf codeFits sameKey dayRow hasPeriod firstDay lastDay holdsDay grantIn numberOrBlank mostPersons factorRule firstDayRule lastDayRule ruled keptBeside keepsRow firstBroken brokenField tableOf stepOf recordsFrom restFrom recordsOf restOf otherTransferor clash earlierOf linkRows isAsked railwayServes joins serves missingLink isOf choiceOf firstPass secondPass checks inLimits rounded upwards downwards nearest reduceBy reduceAll chosen personsFit unread firstSet partBy partsOf priceChecks fareChecks fareOf digits year conditions cardName card
-figures-hold = each figures (refl, (refl, (refl, (refl, (refl, (refl, (refl, (refl, (refl, (refl, (refl, (refl, (refl, (refl, (refl, (refl, (refl, (refl, (refl, (refl, (refl, (refl, (refl, (refl, (refl, (refl, (refl, (refl, tt))))))))))))))))))))))))))))
+fare-figures-hold = each Says figures (refl, (refl, (refl, (refl, (refl, (refl, (refl, (refl, (refl, (refl, (refl, (refl, (refl, (refl, (refl, (refl, (refl, (refl, (refl, (refl, (refl, (refl, (refl, (refl, tt))))))))))))))))))))))))

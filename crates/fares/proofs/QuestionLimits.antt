@@ -12,7 +12,7 @@ use Rattle.common.specs.Lists.{every}
 use Rattle.common.proofs.Tests.{both-true, in-range}
 use Rattle.common.proofs.Lists.{every-at, every-by, first-length, first-at}
 use Rattle.layout.specs.Company.{isRailway}
-use Rattle.layout.specs.Dates.{isDay}
+use Rattle.layout.proofs.Calendar.{a-day-is-real, real-is-a-day}
 use Rattle.fares.specs.Question.{between, legInLimits, noLeg, legsOf, limitsOf, inLimits}
 use Rattle.fares.specs.Meaning.{LegInLimits, legAt, InLimits}
 use Rattle.fares.specs.declared.Leg.{Leg}
@@ -44,7 +44,7 @@ module _ (q : Question) where
       let t : (k : ℕ) → k < 6 → getD (limitsOf q) k true ≡ true = λ k l. every-at (λ b. b) (limitsOf q) e k true l in
       record {
         offer = in-range 1 (q .offer) 99999 (t 0 (omega arith));
-        day = t 1 (omega arith);
+        day = a-day-is-real (q .day) (t 1 (omega arith));
         persons = in-range 1 (q .persons) 99 (t 2 (omega arith));
         card = in-range 0 (q .card) 999 (t 3 (omega arith)) .1;
         count = in-range 1 (q .count) 8 (t 4 (omega arith));

@@ -1,4 +1,4 @@
--- The figures of document 01, in one list. Fares are asked of the engine itself: what it answers to a question, from a bundle that is written out.
+-- The figures of document 01 that are to be proved, and some beside them, in one list. Fares are asked of the engine itself: what it answers to a question, from a bundle that is written out.
 -- Assumes nothing.
 use Prim.Native.Nat.{ℕ, _-_, _*_}
 use mathlib.Core.Path.{_≡_}
@@ -7,21 +7,18 @@ use mathlib.Core.List.{List, [], _∷_, _++_}
 use Rattle.common.specs.Lists.{firstOf}
 use Rattle.layout.specs.Bytes.{byte-plus, byte-minus, byte-0, byte-N, byte-Y}
 use Rattle.layout.specs.Dates.{isDay}
-use Rattle.layout.specs.Layout.{CO, RE, AR, ME, lengthOf}
 use Rattle.fares.specs.Rounding.{unit}
 use Rattle.fares.specs.Fare.{priced, fareOf}
 use Rattle.bundle.specs.Samples.{grant, conditions, cardName, card}
 use Rattle.fares.specs.Samples.{leg, ticket}
 use Rattle.fares.specs.declared.Question.{Question}
 
--- a plain fare at a discount is so many hundred-thousandths of a cent; a question has these parts, by a bundle; a number YYYYMMDD is a day, or is none; the
--- records of a table are so long
+-- a plain fare at a discount is so many hundred-thousandths of a cent; a question has these parts, by a bundle; a number YYYYMMDD is a day, or is none
 pub data Figure : Type 0 where
   exact : (fare discount amount : ℕ) → Figure
   asked : (bundle : List ℕ) → Question → (parts : List ℕ) → Figure
   day : ℕ → Figure
   no-day : ℕ → Figure
-  long : (table bytes : ℕ) → Figure
 
 -- what a figure says
 abbrev pub Says : Figure → Type 0
@@ -29,7 +26,6 @@ Says (exact fare discount amount) = fare * (unit - discount) ≡ amount
 Says (asked bundle q parts) = fareOf bundle q ≡ priced (firstOf 0 8 parts)
 Says (day d) = isDay d ≡ true
 Says (no-day d) = isDay d ≡ false
-Says (long t n) = lengthOf t ≡ n
 
 -- one person on one leg, by one CO for all railways: plain fare, discount, rounding, factor, and the fare
 abbrev pub alone : ℕ → ℕ → ℕ → ℕ → ℕ → Figure
@@ -65,8 +61,4 @@ figures =
     day 20000229 ∷
     no-day 20230229 ∷
     no-day 21000229 ∷
-    long CO 155 ∷
-    long RE 440 ∷
-    long AR 49 ∷
-    long ME 1231 ∷
     []

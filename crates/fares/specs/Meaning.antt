@@ -3,14 +3,14 @@
 -- Assumes nothing.
 use Prim.Native.Nat.{ℕ, _-_, _*_, _≤_, _<_}
 use mathlib.Core.Path.{_≡_}
-use mathlib.Core.Bool.{true, false}
+use mathlib.Core.Bool.{false}
 use mathlib.Core.List.{List, [], _∷_, _++_}
 use mathlib.Core.Logic.{_⊎_}
 use lib.Dec.{eqb}
 use lib.ListN.{length, getD}
 use Rattle.common.specs.Lists.{any, sum}
 use Rattle.layout.specs.Bytes.{byte-Y}
-use Rattle.layout.specs.Dates.{isDay}
+use Rattle.layout.specs.Calendar.{RealDay}
 use Rattle.layout.specs.Layout.{CO, AR}
 use Rattle.layout.specs.Fields.{numberIn, byteOf}
 use Rattle.bundle.specs.Records.{Rec}
@@ -33,7 +33,7 @@ legAt q k = getD (q .legs) k noLeg
 
 pub record InLimits (q : Question) : Type 0 where
   pub offer : (1 ≤ q .offer) × (q .offer ≤ 99999)
-  pub day : isDay (q .day) ≡ true
+  pub day : RealDay (q .day)
   pub persons : (1 ≤ q .persons) × (q .persons ≤ 99)
   pub card : q .card ≤ 999
   pub count : (1 ≤ q .count) × (q .count ≤ 8)
