@@ -1,7 +1,10 @@
+pub mod SameWords
+pub mod WordsAreDue
 pub mod QuestionWords
 pub mod EntryWords
 pub mod NumbersDiffer
 pub mod SoundBook
+pub mod BookIsDue
 pub mod ChangedEntries
 pub mod StaysSound
 pub mod BalanceSums

@@ -1,22 +1,22 @@
 -- What a sound book and a sound entry have, test by test.
 -- Assumes nothing.
-use Prim.Native.Nat.{ℕ, _≤_, _<_}
-use mathlib.Core.Path.{_≡_}
+use Prim.Native.Nat.{ℕ, _+_, _-_, _≤_, _<_}
+use mathlib.Core.Path.{_≡_, sym, _∙_, ap}
 use mathlib.Core.Bool.{true}
 use mathlib.Core.List.{List}
 use native.Mathlib.Omega.{arith}
 use lib.Dec.{leb}
-use lib.ListN.{length, drop}
+use lib.ListN.{length, getD, drop}
+use lib.Seq.{getD-drop}
 use borrow.Author.Tests.{eqb-true, leb-true, eq-eqb, le-leb}
 use Rattle.common.specs.Lists.{every, same}
 use Rattle.common.proofs.Tests.{both-true}
-use Rattle.common.proofs.Lists.{every-at, upto-length, upto-at}
+use Rattle.common.proofs.Lists.{every-at, zero-at, upto-length, upto-at}
 use Rattle.fares.specs.Question.{between, inLimits}
 use Rattle.fares.specs.Reductions.{partBound}
 use Rattle.fares.proofs.FareLaws.{asked as asked-of}
 use Rattle.book.specs.Words.{Entry, noEntry, capacity, bookLength, startOf, countOf, entries, entryAt, questionOf, questionWords}
 use Rattle.book.specs.Sound.{isZero, numberInLimits, askedSound, entrySound, numbersDiffer, soundWords}
-use lib.ListN.{getD}
 
 pub record IsSound (w : List ℕ) : Type 0 where
   pub long : length w ≡ bookLength
@@ -66,6 +66,15 @@ asked-limits ws e = both-true (inLimits (questionOf ws)) (same ws (questionWords
 
 pub few-legs : (ws : List ℕ) → askedSound ws ≡ true → questionOf ws .count ≤ 8
 few-legs ws e = asked-of (questionOf ws) (asked-limits ws e) .few
+
+-- what is zero from n on, and so the parts from the leg count on
+pub zero-from : (xs : List ℕ) (n : ℕ) → every isZero (drop n xs) ≡ true → (k : ℕ) → n ≤ k → getD xs k 0 ≡ 0
+zero-from xs n z k l =
+    let i : n + (k - n) ≡ k = omega arith in
+    ap (λ j. getD xs j 0) (sym i) ∙ (sym (getD-drop n xs (k - n) 0) ∙ zero-at (drop n xs) z (k - n))
+
+pub no-part : (e : Entry) → entrySound e ≡ true → (k : ℕ) → questionOf (e .asked) .count ≤ k → getD (e .parts) k 0 ≡ 0
+no-part e g = zero-from (e .parts) (questionOf (e .asked) .count) (sound-entry e g .unused)
 
 -- the largest word; a sequence within its limits is one word
 abbrev pub most : ℕ

@@ -1,18 +1,17 @@
 -- The total is the sum of the balances of all railways: in a sound book each part counts for one railway, its leg's, and a leg that is not used has no
 -- part; so summed over the railways each entry comes to all its parts.
 -- Assumes nothing.
-use Prim.Native.Nat.{ℕ, _+_, _-_, _≤_, _<_}
+use Prim.Native.Nat.{ℕ, _+_, _≤_, _<_}
 use mathlib.Core.Path.{_≡_, refl, sym, _∙_, ap, ap₂}
 use mathlib.Core.Bool.{Bool, true, false, cond}
 use mathlib.Core.List.{List, [], _∷_}
 use mathlib.Core.Logic.{_⊎_, ⊎-elim}
 use native.Mathlib.Omega.{arith}
 use lib.Dec.{eqb, leb}
-use lib.ListN.{getD, drop}
-use lib.Seq.{getD-drop}
+use lib.ListN.{getD}
 use Rattle.common.specs.Lists.{sum, every, upTo}
 use Rattle.common.proofs.Tests.{side, both-true, either-way, in-range}
-use Rattle.common.proofs.Lists.{every-at, zero-at, upto-at, upto-same, first-length, first-at}
+use Rattle.common.proofs.Lists.{every-at, upto-at, upto-same, first-length, first-at}
 use Rattle.common.proofs.Sums.{sum-both, sum-nothing, sum-swapped, hits, one-hit}
 use Rattle.layout.specs.Company.{isRailway}
 use Rattle.fares.specs.Question.{noLeg, legsOf, legInLimits, inLimits, limitsOf}
@@ -21,7 +20,7 @@ use Rattle.fares.proofs.FareLaws.{asked as asked-of}
 use Rattle.book.specs.Words.{Entry, entries, questionOf, railwayAt, fareAt, legOf}
 use Rattle.book.specs.Sound.{entrySound, soundWords}
 use Rattle.book.specs.Amounts.{legPart, ofRailway, ofAll, liveAmount, balanceOf}
-use Rattle.book.proofs.SoundBook.{sound-entry, asked-limits, is-sound}
+use Rattle.book.proofs.SoundBook.{sound-entry, no-part, asked-limits, is-sound}
 
 nothing-owed : (n : ℕ) → sum (upTo (λ r. balanceOf (ofRailway (r + 1)) []) n) ≡ balanceOf ofAll []
 unfolding balanceOf sum
@@ -58,12 +57,6 @@ module _ (e : Entry) (g : entrySound e ≡ true) where
       let x : getD (legsOf q) j noLeg ≡ legOf asked j = first-at noLeg (q .count) (q .legs) j l ∙ upto-at (legOf asked) 8 j noLeg (omega (arith, few)) in
       both-true (isRailway (getD asked (railwayAt j) 0)) (leb (getD asked (fareAt j) 0) 999999) (rw x at h) .0
 
-  unused : (j : ℕ) → q .count ≤ j → getD (e .parts) j 0 ≡ 0
-  unused j l =
-      let k : q .count + (j - q .count) ≡ j = omega arith in
-      let z : getD (drop (q .count) (e .parts)) (j - q .count) 0 ≡ 0 = zero-at (drop (q .count) (e .parts)) (sound-entry e g .unused) (j - q .count) in
-      ap (λ i. getD (e .parts) i 0) (sym k) ∙ (sym (getD-drop (q .count) (e .parts) (j - q .count) 0) ∙ z)
-
   abbrev railway : ℕ → ℕ
   railway j = getD asked (railwayAt j) 0
 
@@ -76,7 +69,7 @@ module _ (e : Entry) (g : entrySound e ≡ true) where
 
       not-used : q .count ≤ j → sum (upTo (hits (railway j) (getD (e .parts) j 0)) 9999) ≡ getD (e .parts) j 0
       not-used l =
-          let z = unused j l in
+          let z = no-part e g j l in
           ap (λ p. sum (upTo (hits (railway j) p) 9999)) z ∙ (ap sum (upto-same (hits (railway j) 0) (λ r. 0) 9999 (λ r m. either-way (eqb (railway j) (r + 1)) 0)) ∙ (sum-nothing 9999 ∙ sym z))
 
   entry-whole : sum (upTo (λ r. ofRailway (r + 1) asked (e .parts)) 9999) ≡ ofAll asked (e .parts)

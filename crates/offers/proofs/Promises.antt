@@ -7,11 +7,10 @@ use mathlib.Core.List.{List, [], _∷_, _++_}
 use mathlib.Core.Logic.{_⊎_}
 use lib.Dec.{eqb, ltb}
 use lib.ListN.{length, getD, replicate}
-use Rattle.common.specs.Lists.{every, any, sum, same, upTo}
-use Rattle.common.specs.Checks.{refuse, firstFault}
+use Rattle.common.specs.Lists.{every, any, sum, upTo}
+use Rattle.common.specs.Checks.{refuse}
 use Rattle.common.specs.declared.Refusal.{Refusal}
 use Rattle.layout.specs.Layout.{CO, AR, ME, Table, tables, tableAt, tableCount, standFrom}
-use Rattle.layout.specs.Company.{isRailway}
 use Rattle.layout.specs.Fields.{bytesOf, ofOffers, transferorOf, offerOf, railwayOf}
 use Rattle.layout.specs.declared.fields.Grant.{Grant}
 use Rattle.layout.proofs.Tables.{rows-stand, transferor-stands, offer-stands, railway-stands}
@@ -37,15 +36,17 @@ use Rattle.fares.proofs.StepLaws.{whole-discount}
 use Rattle.fares.proofs.LegLaws.{leg-small}
 use Rattle.fares.proofs.Meaning.{each-part, never-sixteen}
 use Rattle.fares.proofs.Grants.{rounded-as-said, conditions-lawful, card-lawful}
-use Rattle.book.specs.Words.{entries, questionWords}
+use Rattle.book.specs.Words.{entries}
+use Rattle.book.specs.Due.{carriedBy, anyLeg}
+use Rattle.book.specs.SameQuestion.{SameQuestion}
 use Rattle.book.specs.Sound.{soundWords}
 use Rattle.sales.specs.Sales.{isPresent, present, saleChecks, saleAnswer, saleWords, cancelChecks, cancelAnswer, cancelWords}
 use Rattle.book.specs.Amounts.{ofRailway, ofAll, balanceOf}
 use Rattle.sales.specs.Balances.{balanceChecks, totalChecks, balanceAnswer, totalAnswer}
-use Rattle.sales.specs.History.{Number, Op, sale, emptyBook, after, cancelledIn, owed}
+use Rattle.sales.specs.History.{Number, Op, sale, emptyBook, after, cancelledIn, bookedBy, owed}
 use Rattle.sales.specs.declared.Receipt.{Receipt}
 use Rattle.sales.specs.declared.Sum.{Sum}
-use Rattle.sales.proofs.BalanceIsOwed.{balance-is-owed, always-sound}
+use Rattle.sales.proofs.BalanceIsOwed.{always-sound, balance-told, total-told}
 use Rattle.book.proofs.TotalIsSum.{total-is-sum}
 use Rattle.sales.proofs.SentAgain.{told-first, refused-other, nothing-changes}
 use Rattle.sales.proofs.AnswersByCase.{booked-parts, not-booked-stays, not-cancelled-stays}
@@ -195,14 +196,14 @@ pub the-book-stays-sound : (ops : List Op) → soundWords (after emptyBook ops) 
 the-book-stays-sound = always-sound
 
 -- every railway is owed what the history alone tells, and so are all together,
-pub a-balance-is-what-the-history-tells : (ops : List Op) (railway : ℕ) → isRailway railway ≡ true
-    → sumTells (balanceAnswer (after emptyBook ops) railway) ≡ answers (owed (ofRailway railway) [] ops ∷ [])
-unfolding balanceAnswer firstFault sumTells
-a-balance-is-what-the-history-tells ops railway h = rw (always-sound ops, h, balance-is-owed (ofRailway railway) ops)
+pub a-balance-is-what-the-history-tells : (ops : List Op) (railway : ℕ) → 1 ≤ railway → railway ≤ 9999
+    → sumTells (balanceAnswer (after emptyBook ops) railway) ≡ answers (owed (carriedBy railway) [] ops ∷ [])
+unfolding sumTells
+a-balance-is-what-the-history-tells ops railway a b = rw (balance-told ops railway a b)
 
-pub the-total-is-what-the-history-tells : (ops : List Op) → sumTells (totalAnswer (after emptyBook ops)) ≡ answers (owed ofAll [] ops ∷ [])
-unfolding totalAnswer firstFault sumTells
-the-total-is-what-the-history-tells ops = rw (always-sound ops, balance-is-owed ofAll ops)
+pub the-total-is-what-the-history-tells : (ops : List Op) → sumTells (totalAnswer (after emptyBook ops)) ≡ answers (owed anyLeg [] ops ∷ [])
+unfolding sumTells
+the-total-is-what-the-history-tells ops = rw (total-told ops)
 
 -- and in every sound book the total is the sum of the balances of railways 1 to 9999.
 pub the-total-is-the-sum-of-the-balances : (book : List ℕ) → soundWords book ≡ true
@@ -216,15 +217,15 @@ module _ (first : List Op) (n : Number) (bundle : List ℕ) (q : Question) (more
   abbrev now : List ℕ
   now = after emptyBook (first ++ (sale n bundle q ∷ more))
 
-  pub sent-again-is-told-its-first-amounts : (bundle′ : List ℕ) (q′ : Question) → same (questionWords q) (questionWords q′) ≡ true
+  pub sent-again-is-told-its-first-amounts : (bundle′ : List ℕ) (q′ : Question) → SameQuestion q q′
       → receiptTells (saleAnswer now (n .till) (n .sequence) bundle′ q′) ≡ answers (alreadyBooked ∷ cond (cancelledIn n more) 1 0 ∷ parts)
   unfolding receiptTells outcomeTells
   sent-again-is-told-its-first-amounts bundle′ q′ e =
       let r = told-booked _ parts sold in
       rw (told-first first n bundle q more (r .0) bundle′ q′ e) (ap (λ x. answers (alreadyBooked ∷ cond (cancelledIn n more) 1 0 ∷ x)) (sym (booked-parts _ _ _ bundle q (r .0)) ∙ r .1))
 
-  pub another-question-is-refused : (bundle′ : List ℕ) (q′ : Question) → same (questionWords q) (questionWords q′) ≡ false
-      → receiptTells (saleAnswer now (n .till) (n .sequence) bundle′ q′) ≡ refuses (refuse 23 (length (entries (after emptyBook first))) 0) (replicate 10 0)
+  pub another-question-is-refused : (bundle′ : List ℕ) (q′ : Question) → (SameQuestion q q′ → ⊥)
+      → receiptTells (saleAnswer now (n .till) (n .sequence) bundle′ q′) ≡ refuses (refuse 23 (length (bookedBy [] first)) 0) (replicate 10 0)
   unfolding receiptTells outcomeTells
   another-question-is-refused bundle′ q′ e = rw (refused-other first n bundle q more (told-booked _ parts sold .0) bundle′ q′ e)
 

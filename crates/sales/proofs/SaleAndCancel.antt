@@ -22,18 +22,21 @@ use Rattle.bundle.specs.Verdict.{checks}
 use Rattle.fares.specs.Question.{noLeg, legsOf, inLimits}
 use Rattle.fares.specs.Reductions.{partBound}
 use Rattle.fares.specs.Legs.{partOf}
-use Rattle.fares.specs.Fare.{partsOf, priceChecks, fareChecks}
+use Rattle.fares.specs.Fare.{partsOf, priceChecks, fareChecks, quoted, fareOf}
+use Rattle.fares.specs.declared.Leg.{Leg}
 use Rattle.fares.specs.declared.Question.{Question}
 use Rattle.fares.proofs.FareLaws.{asked, part-small}
 use Rattle.book.specs.Words.{Entry, noEntry, capacity, countOf, entries, questionWords, booking}
+use Rattle.book.specs.Due.{dueFrom}
 use Rattle.book.specs.Sound.{isZero, numberInLimits, entrySound, hasNumber, heldAt}
 use Rattle.sales.specs.Sales.{isClean, place, isPresent, present, saleChecks, isBooked, saleWords, cancelChecks, isCancelled, cancelWords}
-use Rattle.sales.specs.History.{Number, isIn, books}
+use Rattle.sales.specs.History.{Number, isIn, isPriced, books}
 use Rattle.book.proofs.EntryWords.{cancelledEntry, Whole}
 use Rattle.book.proofs.NumbersDiffer.{has-number, held-only}
-use Rattle.book.proofs.SoundBook.{IsSound, sound-is, sound-entry, entries-length}
+use Rattle.book.proofs.SoundBook.{IsSound, sound-is, sound-entry, zero-from, entries-length}
 use Rattle.book.proofs.ChangedEntries.{entries-added}
 use Rattle.book.proofs.QuestionWords.{words-length}
+use Rattle.book.proofs.WordsAreDue.{Counts}
 use Rattle.book.proofs.StaysSound.{cancelling, same-number, booking-sound, added-sound, cancelled-after}
 use Rattle.book.specs.Changes.{added, cancelledAt}
 
@@ -56,6 +59,15 @@ any-number n (e ∷ es) = ap (λ b. hasNumber (n .till) (n .sequence) e || b) (a
 pub present-is : (w : List ℕ) (n : Number) → isPresent w (n .till) (n .sequence) ≡ isIn n (saleNumbersOf (entries w))
 unfolding heldAt
 present-is w n = sym (any-least (hasNumber (n .till) (n .sequence)) noEntry (entries w)) ∙ any-number n (entries w)
+
+-- the bundle gives a fare exactly if its checks find nothing
+clean-price : (f : Finding) (parts : List ℕ) → isClean f ≡ isPriced (quoted f parts .outcome)
+clean-price clean parts = refl
+clean-price (fault why) parts = refl
+
+priced-is : (b : List ℕ) (q : Question) → isClean (firstFault (fareChecks b q)) ≡ isPriced (fareOf b q .outcome)
+unfolding fareOf
+priced-is b q = clean-price (firstFault (fareChecks b q)) (partsOf (recordsOf b) q)
 
 -- A SALE BOOKS exactly if the history says so
 booked-by : (L P D F : Bool) (i : ℕ) (cs : List Check)
@@ -83,7 +95,7 @@ books-is w s n b q =
     let e = booked-by L P D F (place w (n .till) (n .sequence)) (fareChecks b q) in
     let x : (isClean (firstFault (saleChecks w (n .till) (n .sequence) b q)) && not P) ≡ (L && (not P && (not F && isClean (firstFault (fareChecks b q))))) =
     rw (sound-is w s) e in
-    x ∙ rw (not-full (length (entries w)) capacity, present-is w n, ← length-map (entries w) saleNumberOf)
+    x ∙ rw (not-full (length (entries w)) capacity, present-is w n, priced-is b q, ← length-map (entries w) saleNumberOf)
 
 -- what a sale that books has: a question within its limits, and parts within the bound, zero from the leg count on
 module _ (b : List ℕ) (q : Question) (c : firstFault (fareChecks b q) ≡ clean) where
@@ -93,6 +105,10 @@ module _ (b : List ℕ) (q : Question) (c : firstFault (fareChecks b q) ≡ clea
 
   abbrev parts : List ℕ
   parts = partsOf (recordsOf b) q
+
+  pub fare-parts : fareOf b q .parts ≡ parts
+  unfolding fareOf
+  fare-parts = rw c
 
   abbrev own : List ℕ
   own = map (partOf (recordsOf b) q) (legsOf q)
@@ -109,6 +125,11 @@ module _ (b : List ℕ) (q : Question) (c : firstFault (fareChecks b q) ≡ clea
   pub parts-clear : every isZero (drop (q .count) parts) ≡ true
   unfolding partsOf
   parts-clear = rw (drop-at own (replicate (8 - q .count) 0) (q .count) own-length) (every-replicate isZero 0 refl (8 - q .count))
+
+  -- and what its words count is due from it
+  pub sold-due : {f : List ℕ → List ℕ → ℕ} {legs : Leg → Bool} → Counts f legs → f (questionWords q) parts ≡ dueFrom legs q (fareOf b q .parts)
+  sold-due {legs = legs} k =
+      k .as-due q parts (asked q priced-in-limits .few) (zero-from parts (q .count) parts-clear) ∙ ap (dueFrom legs q) (sym fare-parts)
 
   own-small : every (λ p. leb p partBound) own ≡ true
   own-small =
@@ -149,11 +170,11 @@ module _ (w : List ℕ) (s : IsSound w) (n : Number) (b : List ℕ) (q : Questio
     told =
         let a = both-true (numberInLimits t u) _ e in
         let p = both-true (not (isIn n (saleNumbersOf (entries w)))) _ (a .1) in
-        let k = both-true (ltb (length (saleNumbersOf (entries w))) capacity) (isClean (firstFault (fareChecks b q))) (p .1) in (
+        let k = both-true (ltb (length (saleNumbersOf (entries w))) capacity) (isPriced (fareOf b q .outcome)) (p .1) in (
           a .0,
           present-is w n ∙ not-true (isIn n (saleNumbersOf (entries w))) (p .0),
           rw (length-map (entries w) saleNumberOf) at (ltb-true (length (saleNumbersOf (entries w))) capacity (k .0)),
-          clean-by (firstFault (fareChecks b q)) (k .1),
+          clean-by (firstFault (fareChecks b q)) (priced-is b q ∙ k .1),
         )
 
     room : countOf w < capacity
@@ -162,6 +183,9 @@ module _ (w : List ℕ) (s : IsSound w) (n : Number) (b : List ℕ) (q : Questio
     absent : heldAt t u (entries w) ≡ length (entries w)
     unfolding heldAt
     absent = omega (arith, ltb-false (heldAt t u (entries w)) (length (entries w)) (told .1), within (λ i. hasNumber t u (getD (entries w) i noEntry)) (length (entries w)))
+
+    pub books-priced : firstFault (fareChecks b q) ≡ clean
+    books-priced = told .3
 
     pub sale-adds : saleWords w t u b q ≡ added w entry
     unfolding saleWords

@@ -1,7 +1,7 @@
 -- DEMAND 3, its second half: a sale that is sent again is told its first amounts and changes nothing, and a number used again for another sale is
 -- refused; cancelled or not, after any history.
 -- Assumes nothing.
-use Prim.Native.Nat.{ℕ, _+_, _<_}
+use Prim.Native.Nat.{ℕ, _+_, _≤_, _<_}
 use mathlib.Core.Path.{_≡_, refl, sym, _∙_, ap, ap₂}
 use mathlib.Core.Bool.{Bool, true, false, cond, _||_, and-false}
 use mathlib.Core.List.{List, [], _∷_, _++_}
@@ -17,15 +17,18 @@ use Rattle.fares.specs.Fare.{partsOf}
 use Rattle.fares.specs.declared.Question.{Question}
 use Rattle.book.specs.Words.{Entry, noEntry, entries, questionWords, booking}
 use Rattle.book.specs.Sound.{hasNumber}
+use Rattle.book.specs.SameQuestion.{SameQuestion}
 use Rattle.sales.specs.Sales.{isPresent, present, place, saleAnswer, saleWords, cancelWords, isBooked, receipt, noReceipt}
 use Rattle.sales.specs.declared.Outcome.the-variants.{Booked, AlreadyBooked}
-use Rattle.sales.specs.History.{Number, Op, sale, cancel, emptyBook, after, cancelledIn, books}
+use Rattle.sales.specs.History.{Number, Op, sale, cancel, emptyBook, after, cancelledIn, books, bookedBy}
 use Rattle.sales.specs.Helpers.{againAnswer}
 use Rattle.book.proofs.EntryWords.{cancelledEntry}
 use Rattle.book.proofs.SoundBook.{IsSound, sound-is}
+use Rattle.book.proofs.SameWords.{same-words, other-words}
+use Rattle.fares.proofs.FareLaws.{asked}
 use Rattle.book.proofs.StaysSound.{cancelling}
-use Rattle.sales.proofs.SaleAndCancel.{saleNumberOf, same-sale-number, saleNumbersOf, books-is, not-booked, sale-entries, sale-sound, cancel-after, books-number, at-place}
-use Rattle.sales.proofs.BalanceIsOwed.{stays-sound, empty-sound}
+use Rattle.sales.proofs.SaleAndCancel.{saleNumberOf, same-sale-number, saleNumbersOf, books-is, not-booked, sale-entries, sale-sound, cancel-after, books-number, books-priced, priced-in-limits, at-place}
+use Rattle.sales.proofs.BalanceIsOwed.{stays-sound, empty-sound, booked-numbers}
 use Rattle.sales.proofs.AnswersByCase.{present-again, booked-is, again-same, again-other}
 
 -- an entry once booked: where it is, and cancelled if an operation cancels its number
@@ -156,18 +159,23 @@ module _ (first : List Op) (n : Number) (b : List ℕ) (q : Question) (more : Li
     kept false = refl
 
     -- told its first parts and its status if the question is the same,
-    pub told-first : (b′ : List ℕ) (q′ : Question) → same (questionWords q) (questionWords q′) ≡ true
+    pub told-first : (b′ : List ℕ) (q′ : Question) → SameQuestion q q′
         → saleAnswer now (n .till) (n .sequence) b′ q′ ≡ receipt (AlreadyBooked (cond (cancelledIn n more) 1 0)) (partsOf (recordsOf b) q)
     told-first b′ q′ h =
         sent-again b′ q′
-        ∙ again-same (later entry more) i q′ (ap (λ x. same x (questionWords q′)) (asked-is (cancelledIn n more)) ∙ h)
+        ∙ again-same (later entry more) i q′ (ap (λ x. same x (questionWords q′)) (asked-is (cancelledIn n more)) ∙ same-words q q′ h)
         ∙ kept (cancelledIn n more)
 
-    -- refused by 23 at its entry if it is another,
-    pub refused-other : (b′ : List ℕ) (q′ : Question) → same (questionWords q) (questionWords q′) ≡ false
-        → saleAnswer now (n .till) (n .sequence) b′ q′ ≡ noReceipt (refuse 23 i 0)
+    few-legs : q .count ≤ 8
+    few-legs = asked q (priced-in-limits b q (books-priced start at-first n b q booked)) .few
+
+    -- refused by 23 if it is another, at its entry: behind as many as were booked before it,
+    pub refused-other : (b′ : List ℕ) (q′ : Question) → (SameQuestion q q′ → ⊥)
+        → saleAnswer now (n .till) (n .sequence) b′ q′ ≡ noReceipt (refuse 23 (length (bookedBy [] first)) 0)
     refused-other b′ q′ h =
-        sent-again b′ q′ ∙ again-other (later entry more) i q′ (ap (λ x. same x (questionWords q′)) (asked-is (cancelledIn n more)) ∙ h)
+        sent-again b′ q′
+        ∙ (again-other (later entry more) i q′ (ap (λ x. same x (questionWords q′)) (asked-is (cancelledIn n more)) ∙ other-words q q′ few-legs h)
+        ∙ ap (λ k. noReceipt (refuse 23 k 0)) (sym (length-map (entries start) saleNumberOf) ∙ ap length (booked-numbers first)))
 
     -- and nothing changes
     pub nothing-changes : (b′ : List ℕ) (q′ : Question) → saleWords now (n .till) (n .sequence) b′ q′ ≡ now

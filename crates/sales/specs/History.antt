@@ -1,19 +1,21 @@
--- DEMAND 3: what the book owes after any sequence of sales and cancellations, told from the history alone. No word, entry or answer of a book stands in
--- `owed`.
+-- DEMAND 3: what is owed after any sequence of sales and cancellations, told from the history alone, by the questions and the fares of its sales. No word,
+-- entry or answer of a book stands in `owed`.
 -- Assumes nothing.
 use Prim.Native.Nat.{ℕ, _+_}
-use mathlib.Core.Bool.{Bool, false, cond, not, _&&_, _||_}
+use mathlib.Core.Bool.{Bool, true, false, cond, not, _&&_, _||_}
 use mathlib.Core.List.{List, [], _∷_, _++_}
 use lib.Dec.{eqb, ltb}
 use lib.ListN.{length, replicate}
 use Rattle.common.specs.Lists.{any}
-use Rattle.common.specs.Checks.{firstFault}
-use Rattle.bundle.specs.Records.{recordsOf}
-use Rattle.fares.specs.Fare.{partsOf, fareChecks}
+use Rattle.fares.specs.Question.{between}
+use Rattle.fares.specs.Fare.{fareOf}
+use Rattle.fares.specs.declared.Leg.{Leg}
 use Rattle.fares.specs.declared.Question.{Question}
-use Rattle.book.specs.Words.{capacity, bookLength, questionWords}
-use Rattle.book.specs.Sound.{numberInLimits}
-use Rattle.sales.specs.Sales.{isClean, saleWords, cancelWords}
+use Rattle.fares.specs.declared.Pricing.{Pricing}
+use Rattle.fares.specs.declared.Pricing.the-variants.{Priced, Refused}
+use Rattle.book.specs.Words.{bookLength}
+use Rattle.book.specs.Due.{dueFrom}
+use Rattle.sales.specs.Sales.{saleWords, cancelWords}
 
 pub record Number : Type 0 where
   pub till : ℕ
@@ -46,16 +48,29 @@ cancelledIn n [] = false
 cancelledIn n (sale m bundle q ∷ ops) = cancelledIn n ops
 cancelledIn n (cancel m ∷ ops) = sameNumber m n || cancelledIn n ops
 
--- a sale books if its number is within its limits and new, fewer than 256 are booked, and the bundle gives it a fare
-unfoldable pub books : List Number → Number → List ℕ → Question → Bool
-books ns n bundle q =
-    numberInLimits (n .till) (n .sequence) && (not (isIn n ns) && (ltb (length ns) capacity && isClean (firstFault (fareChecks bundle q))))
+-- "till 1-65,535, sequence 1-4,294,967,295"
+abbrev pub isNumber : Number → Bool
+isNumber n = between 1 65535 (n .till) && between 1 4294967295 (n .sequence)
 
--- each different number counts once, with its parts as priced at its first booking, unless it is cancelled afterwards; ns are the numbers booked before
-unfoldable pub owed : (List ℕ → List ℕ → ℕ) → List Number → List Op → ℕ
-owed f ns [] = 0
-owed f ns (sale n bundle q ∷ ops) =
+abbrev pub isPriced : Pricing → Bool
+isPriced Priced = true
+isPriced (Refused why) = false
+
+-- a sale books if its number is within its limits and new, fewer than 256 are booked, and the bundle gives it a fare; ns are the numbers booked before
+unfoldable pub books : List Number → Number → List ℕ → Question → Bool
+books ns n bundle q = isNumber n && (not (isIn n ns) && (ltb (length ns) 256 && isPriced (fareOf bundle q .outcome)))
+
+-- the numbers that the operations book, in order, after those booked before
+unfoldable pub bookedBy : List Number → List Op → List Number
+bookedBy ns [] = ns
+bookedBy ns (sale n bundle q ∷ ops) = bookedBy (cond (books ns n bundle q) (ns ++ (n ∷ [])) ns) ops
+bookedBy ns (cancel n ∷ ops) = bookedBy ns ops
+
+-- each different number counts once, with what was due from it at its first booking, unless it is cancelled afterwards; `legs` says which legs count
+unfoldable pub owed : (Leg → Bool) → List Number → List Op → ℕ
+owed legs ns [] = 0
+owed legs ns (sale n bundle q ∷ ops) =
     cond (books ns n bundle q)
-    (cond (cancelledIn n ops) 0 (f (questionWords q) (partsOf (recordsOf bundle) q)) + owed f (ns ++ (n ∷ [])) ops)
-    (owed f ns ops)
-owed f ns (cancel n ∷ ops) = owed f ns ops
+    (cond (cancelledIn n ops) 0 (dueFrom legs q (fareOf bundle q .parts)) + owed legs (ns ++ (n ∷ [])) ops)
+    (owed legs ns ops)
+owed legs ns (cancel n ∷ ops) = owed legs ns ops

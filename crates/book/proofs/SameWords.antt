@@ -1,0 +1,77 @@
+-- Words are compared, and questions are meant: those of two questions are the same exactly if the questions are.
+-- Assumes nothing.
+use Prim.Native.Nat.{ℕ, _≤_, _<_}
+use mathlib.Core.Path.{_≡_, refl, sym, _∙_, ap, ap₂}
+use mathlib.Core.Bool.{Bool, true, false, cond}
+use mathlib.Core.List.{List, _∷_, _++_, flatMap}
+use native.Mathlib.Omega.{arith}
+use lib.Dec.{ltb}
+use lib.ListN.{getD}
+use borrow.Author.Tests.{lt-ltb, ltb-true}
+use Rattle.common.specs.Lists.{same, upTo}
+use Rattle.common.proofs.Lists.{upto-at, upto-same, is-same, same-is}
+use Rattle.common.proofs.Tests.{never, refuted}
+use Rattle.fares.specs.Question.{noLeg}
+use Rattle.fares.specs.declared.Leg.{Leg}
+use Rattle.fares.specs.declared.Question.{Question}
+use Rattle.book.specs.Words.{offerAt, dayAt, cardsAt, countAt, personsAt, legAt, questionWords, questionOf}
+use Rattle.book.specs.SameQuestion.{SameQuestion}
+
+-- a leg that is used is the slot's
+pub used : (q : Question) (k : ℕ) → k < q .count → legAt q k ≡ getD (q .legs) k noLeg
+used q k l = rw (lt-ltb k (q .count) l)
+
+module _ (q q′ : Question) where
+  module _ (few : q .count ≤ 8) (e : questionWords q ≡ questionWords q′) where
+    same-count : q .count ≡ q′ .count
+    unfolding questionWords
+    same-count = ap (λ ws. getD ws countAt 0) e
+
+    legs-said : upTo (legAt q) 8 ≡ upTo (legAt q′) 8
+    unfolding questionOf questionWords upTo flatMap
+    legs-said = ap (λ ws. questionOf ws .legs) e
+
+    same-leg : (k : ℕ) → k < q .count → getD (q .legs) k noLeg ≡ getD (q′ .legs) k noLeg
+    same-leg k l =
+        let m : k < 8 = omega arith in
+        sym (used q k l)
+        ∙ (sym (upto-at (legAt q) 8 k noLeg m)
+        ∙ (ap (λ legs. getD legs k noLeg) legs-said ∙ (upto-at (legAt q′) 8 k noLeg m ∙ used q′ k (omega (arith, same-count)))))
+
+    words-mean : SameQuestion q q′
+    unfolding questionWords
+    words-mean =
+        record {
+          offer = ap (λ ws. getD ws offerAt 0) e;
+          day = ap (λ ws. getD ws dayAt 0) e;
+          persons = ap (λ ws. getD ws personsAt 0) e;
+          card = ap (λ ws. getD ws cardsAt 0) e;
+          count = same-count;
+          railways = λ k l. ap (λ leg. leg .railway) (same-leg k l);
+          fares = λ k l. ap (λ leg. leg .fare) (same-leg k l);
+        }
+
+  module _ (s : SameQuestion q q′) where
+    leg-alike : (b : Bool) (k : ℕ) → ltb k (q .count) ≡ b → cond b (getD (q .legs) k noLeg) noLeg ≡ cond b (getD (q′ .legs) k noLeg) noLeg
+    leg-alike true k e =
+        let l = ltb-true k (q .count) e in
+        λ j. record { railway = s .railways k l j; fare = s .fares k l j }
+    leg-alike false k e = refl
+
+    legs-alike : upTo (legAt q) 8 ≡ upTo (legAt q′) 8
+    legs-alike = upto-same (legAt q) (legAt q′) 8 (λ k l. leg-alike (ltb k (q .count)) k refl ∙ rw (s .count))
+
+    mean-words : questionWords q ≡ questionWords q′
+    unfolding questionWords
+    mean-words = rw (legs-alike, s .offer, s .day, s .card, s .count, s .persons)
+
+  -- THE SAME QUESTION, both ways
+  pub same-words : SameQuestion q q′ → same (questionWords q) (questionWords q′) ≡ true
+  same-words s = is-same (questionWords q) (questionWords q′) (mean-words s)
+
+  pub same-question : q .count ≤ 8 → same (questionWords q) (questionWords q′) ≡ true → SameQuestion q q′
+  same-question few e = words-mean few (same-is (questionWords q) (questionWords q′) e)
+
+  -- and another question
+  pub other-words : q .count ≤ 8 → (SameQuestion q q′ → ⊥) → same (questionWords q) (questionWords q′) ≡ false
+  other-words few n = refuted (same (questionWords q) (questionWords q′)) (λ e. n (same-question few e))

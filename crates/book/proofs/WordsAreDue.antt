@@ -1,0 +1,68 @@
+-- What the words of a sale count is what is due from its question: for a railway, and for all.
+-- Assumes nothing.
+use Prim.Native.Nat.{ℕ, zero, suc, _+_, _-_, _≤_, _<_}
+use mathlib.Core.Path.{_≡_, refl, sym, _∙_, ap}
+use mathlib.Core.Bool.{Bool, cond}
+use mathlib.Core.List.{List, flatMap}
+use native.Mathlib.Nat.{add-zero}
+use native.Mathlib.Omega.{arith}
+use lib.Dec.{eqb}
+use lib.ListN.{getD}
+use Rattle.common.specs.Lists.{sum, upTo}
+use Rattle.common.proofs.Lists.{upto-at, upto-same}
+use Rattle.common.proofs.Sums.{sum-up}
+use Rattle.common.proofs.Tests.{either-way}
+use Rattle.fares.specs.Question.{noLeg}
+use Rattle.fares.specs.declared.Leg.{Leg}
+use Rattle.fares.specs.declared.Question.{Question}
+use Rattle.book.specs.Words.{railwayAt, legAt, legOf, questionWords}
+use Rattle.book.specs.Amounts.{legPart, ofRailway, ofAll}
+use Rattle.book.specs.Due.{carriedBy, anyLeg, dueFrom}
+use Rattle.book.proofs.SameWords.{used}
+
+-- a count over words is one over legs: what it makes of a question's words is due from the question
+pub record Counts (f : List ℕ → List ℕ → ℕ) (legs : Leg → Bool) : Type 0 where
+  pub as-due : (q : Question) (parts : List ℕ) → q .count ≤ 8 → ((k : ℕ) → q .count ≤ k → getD parts k 0 ≡ 0) → f (questionWords q) parts ≡ dueFrom legs q parts
+
+-- what is zero from n on adds nothing there
+zeros-behind : (f : ℕ → ℕ) (n : ℕ) → ((k : ℕ) → n ≤ k → f k ≡ 0) → (m : ℕ) → sum (upTo f (n + m)) ≡ sum (upTo f n)
+zeros-behind f n z zero = rw add-zero
+zeros-behind f n z (suc m) =
+    let e : n + suc m ≡ n + m + 1 = omega arith in
+    rw (e, sum-up f (n + m)) (omega (arith, z (n + m) (omega arith), zeros-behind f n z m))
+
+module _ (q : Question) where
+  -- the railway of a leg, where the words have it
+  legs-said : upTo (legOf (questionWords q)) 8 ≡ upTo (legAt q) 8
+  unfolding questionWords upTo flatMap
+  legs-said = refl
+
+  railway-said : (k : ℕ) → k < q .count → k < 8 → getD (questionWords q) (railwayAt k) 0 ≡ getD (q .legs) k noLeg .railway
+  railway-said k l m =
+      ap (λ leg. leg .railway)
+      (sym (upto-at (legOf (questionWords q)) 8 k noLeg m)
+      ∙ (ap (λ legs. getD legs k noLeg) legs-said ∙ (upto-at (legAt q) 8 k noLeg m ∙ used q k l)))
+
+  module _ (parts : List ℕ) (few : q .count ≤ 8) (unused : (k : ℕ) → q .count ≤ k → getD parts k 0 ≡ 0) where
+    -- over the eight slots as over the legs
+    over-legs : (f g : ℕ → ℕ) → ((k : ℕ) → k < q .count → f k ≡ g k) → ((k : ℕ) → q .count ≤ k → f k ≡ 0) → sum (upTo f 8) ≡ sum (upTo g (q .count))
+    over-legs f g e z =
+        let n : 8 ≡ q .count + (8 - q .count) = omega arith in
+        ap (λ m. sum (upTo f m)) n ∙ (zeros-behind f (q .count) z (8 - q .count) ∙ ap sum (upto-same f g (q .count) e))
+
+    all-due : ofAll (questionWords q) parts ≡ dueFrom anyLeg q parts
+    unfolding dueFrom
+    all-due = over-legs (λ j. getD parts j 0) _ (λ k l. refl) unused
+
+    railway-due : (railway : ℕ) → ofRailway railway (questionWords q) parts ≡ dueFrom (carriedBy railway) q parts
+    unfolding dueFrom
+    railway-due railway =
+        over-legs (legPart railway (questionWords q) parts) _ (λ k l. ap (λ r. cond (eqb r railway) (getD parts k 0) 0) (railway-said k l (omega arith)))
+        (λ k l. ap (λ p. cond (eqb (getD (questionWords q) (railwayAt k) 0) railway) p 0) (unused k l) ∙ either-way (eqb (getD (questionWords q) (railwayAt k) 0) railway) 0)
+
+-- THE LAW, for a railway and for all
+pub counts-railway : (railway : ℕ) → Counts (ofRailway railway) (carriedBy railway)
+counts-railway railway = record { as-due = λ q parts few unused. railway-due q parts few unused railway }
+
+pub counts-all : Counts ofAll anyLeg
+counts-all = record { as-due = all-due }
