@@ -13,11 +13,11 @@ use Rattle.common.specs.Lists.{sum, upTo}
 use Rattle.common.proofs.Sums.{sum-append, sum-up-small}
 use Rattle.common.proofs.Tests.{in-range}
 use Rattle.layout.specs.Company.{isRailway}
-use Rattle.book.specs.Words.{Entry, width, countOf, railwayAt, entryOf, entryAt, entries, askedAt, partsAt, startOf, legsAt, legWidth}
+use Rattle.book.specs.Words.{Entry, width, countOf, railwayAt, entryOf, entryWords, entryAt, entries, askedAt, partsAt, startOf, legsAt, legWidth}
 use Rattle.book.specs.Amounts.{ofRailway, ofAll, liveAmount, balanceOf}
 use Rattle.book.specs.Helpers.{counted}
 use Rattle.book.proofs.SoundBook.{most}
-use Rattle.book.proofs.EntryWords.{block, word-at, block-lent, part-at, railway-at}
+use Rattle.book.proofs.EntryWords.{word-at, block-lent, part-at, railway-at}
 
 -- what leg j of an entry comes to for a railway, or for all: its part if it counts, and else nothing
 abbrev pub countedPart : ℕ → List ℕ → List ℕ → ℕ → ℕ
@@ -56,7 +56,7 @@ Small w f = (i : ℕ) → f (entryAt w i .asked) (entryAt w i .parts) ≤ mostOf
 module _ (w : List ℕ) (words-small : (k : ℕ) → getD w k 0 ≤ most) where
   part-small : (i j : ℕ) → j < 8 → getD (entryAt w i .parts) j 0 ≤ most
   part-small i j l =
-      rw (part-at (block w i) j l, word-at w i (partsAt + j) (omega arith)) (words-small (startOf i + (partsAt + j)))
+      rw (part-at (entryWords w i) j l, word-at w i (partsAt + j) (omega arith)) (words-small (startOf i + (partsAt + j)))
 
   pub counted-small : (railway : ℕ) → Small w (counted railway)
   counted-small railway i =

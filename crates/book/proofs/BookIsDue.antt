@@ -14,7 +14,7 @@ use Rattle.book.specs.Amounts.{ofRailway, ofAll, balanceOf}
 use Rattle.book.specs.Due.{carriedBy, anyLeg, dueFrom, dueIn}
 use Rattle.book.proofs.QuestionWords.{asked-again}
 use Rattle.book.proofs.SoundBook.{sound-entry, few-legs, no-part, is-sound}
-use Rattle.book.proofs.WordsAreDue.{Counts, counts-railway, counts-all}
+use Rattle.book.proofs.AmountsAreDue.{Counts, counts-railway, counts-all}
 
 module _ {f : List ℕ → List ℕ → ℕ} {legs : Leg → Bool} (c : Counts f legs) where
   entry-due : (e : Entry) → entrySound e ≡ true → f (e .asked) (e .parts) ≡ dueFrom legs (questionOf (e .asked)) (e .parts)

@@ -11,10 +11,10 @@ use lib.Seq.{ext-getD, getD-set-same, getD-set-other, drop-set-lt, drop-drop, pa
 use Rattle.common.specs.Lists.{every}
 use Rattle.common.proofs.Tests.{order}
 use Rattle.common.proofs.Lists.{upto-same, upto-more}
-use Rattle.book.specs.Words.{Entry, noEntry, entryOf, entryAt, capacity, width, bookLength, countOf, entries, wordsOf, statusAt, startOf}
+use Rattle.book.specs.Words.{Entry, noEntry, entryOf, entryWords, entryAt, capacity, width, bookLength, countOf, entries, wordsOf, statusAt, startOf}
 use Rattle.book.specs.Sound.{isZero}
 use Rattle.book.specs.Changes.{added}
-use Rattle.book.proofs.EntryWords.{block, cancelledEntry, store-before, store-in, store-after, status-set, added-before, added-there, added-behind, added-length, Whole, words-back}
+use Rattle.book.proofs.EntryWords.{cancelledEntry, store-before, store-in, store-after, status-set, added-before, added-there, added-behind, added-length, Whole, words-back}
 use Rattle.common.proofs.Lists.{every-drop}
 use Rattle.book.proofs.SoundBook.{IsSound, entry-is, entries-length}
 
@@ -32,7 +32,7 @@ module _ (w : List ℕ) (s : IsSound w) (i : ℕ) (l : i < countOf w) where
   cancelled-there : entryAt w′ i ≡ cancelledEntry (entryAt w i)
   cancelled-there =
       ap entryOf (store-in w 1 i statusAt (omega arith))
-      ∙ status-set (block w i) (rw (length-take, length-drop) (omega (arith, room)))
+      ∙ status-set (entryWords w i) (rw (length-take, length-drop) (omega (arith, room)))
 
   kept : (j : ℕ) → (j < i) ⊎ (i < j) → entryAt w′ j ≡ entryAt w j
   kept j (inl h) =

@@ -10,17 +10,14 @@ use lib.Seq.{getD-take, getD-drop, drop-cons, drop-drop, drop-set-lt, drop-set-a
 use Rattle.common.proofs.Lists.{part-front}
 use Rattle.common.proofs.Parts.{part-rest}
 use Rattle.fares.specs.declared.Question.{Question}
-use Rattle.book.specs.Words.{Entry, countAt, legsAt, legWidth, railwayAt, questionOf, entryAt, askedAt, partsAt, statusAt, spareAt, tillAt, sequenceAt, width, questionWidth, questionWords, entryOf, wordsOf, booking, startOf}
+use Rattle.book.specs.Words.{Entry, countAt, legsAt, legWidth, railwayAt, questionOf, entryWords, entryAt, askedAt, partsAt, statusAt, spareAt, tillAt, sequenceAt, width, questionWidth, questionWords, entryOf, wordsOf, booking, startOf}
 use Rattle.book.proofs.QuestionWords.{words-length}
 
-abbrev pub block : List ℕ → ℕ → List ℕ
-block w i = take width (drop (startOf i) w)
-
 -- READ: word k of entry i, some of its words, and all of them, as the code lends them
-pub word-at : (w : List ℕ) (i k : ℕ) → k < width → getD (block w i) k 0 ≡ getD w (startOf i + k) 0
+pub word-at : (w : List ℕ) (i k : ℕ) → k < width → getD (entryWords w i) k 0 ≡ getD w (startOf i + k) 0
 word-at w i k l = getD-take width (drop (startOf i) w) k 0 l ∙ getD-drop (startOf i) w k 0
 
-part-of : (w : List ℕ) (i k m : ℕ) → k + m ≤ width → take m (drop (startOf i + k) w) ≡ take m (drop k (block w i))
+part-of : (w : List ℕ) (i k m : ℕ) → k + m ≤ width → take m (drop (startOf i + k) w) ≡ take m (drop k (entryWords w i))
 part-of w i k m l =
     let e : width ≡ k + (width - k) = omega arith in
     let r = part-rest k (width - k) (drop (startOf i) w) in
@@ -36,14 +33,14 @@ asked-lent w i =
 pub parts-lent : (w : List ℕ) (i : ℕ) → take 8 (drop (startOf i + partsAt) w) ≡ entryAt w i .parts
 parts-lent w i = part-of w i partsAt 8 (omega arith)
 
-pub block-lent : (w : List ℕ) (i : ℕ) → take (startOf i + width - startOf i) (drop (startOf i) w) ≡ block w i
+pub block-lent : (w : List ℕ) (i : ℕ) → take (startOf i + width - startOf i) (drop (startOf i) w) ≡ entryWords w i
 block-lent w i = ap (λ n. take n (drop (startOf i) w)) (add-sub-cancel-left (startOf i) width)
 
 -- in words that are an entry's: a part, the railway of a leg, the leg count, and the parts from there on
 pub part-at : (b : List ℕ) (j : ℕ) → j < 8 → getD (take 8 (drop partsAt b)) j 0 ≡ getD b (partsAt + j) 0
 part-at b j l = getD-take 8 (drop partsAt b) j 0 l ∙ getD-drop partsAt b j 0
 
-asked-at : (b : List ℕ) (k : ℕ) → k < questionWidth → getD (take questionWidth (drop askedAt b)) k 0 ≡ getD b (askedAt + k) 0
+pub asked-at : (b : List ℕ) (k : ℕ) → k < questionWidth → getD (take questionWidth (drop askedAt b)) k 0 ≡ getD b (askedAt + k) 0
 asked-at b k l = getD-take questionWidth (drop askedAt b) k 0 l ∙ getD-drop askedAt b k 0
 
 pub railway-at : (b : List ℕ) (j : ℕ) → j < 8 → getD (take questionWidth (drop askedAt b)) (railwayAt j) 0 ≡ getD b (askedAt + legsAt + legWidth * j) 0
@@ -63,13 +60,13 @@ unused-parts b n l =
 
 -- A STORE: a block that the place is not in stays as it was,
 module _ (w : List ℕ) (v : ℕ) where
-  pub store-before : (p i : ℕ) → p < startOf i → block (set w p v) i ≡ block w i
+  pub store-before : (p i : ℕ) → p < startOf i → entryWords (set w p v) i ≡ entryWords w i
   store-before p i l = ap (take width) (drop-set-lt (startOf i) w p v l)
 
-  pub store-in : (i k : ℕ) → k < width → block (set w (startOf i + k) v) i ≡ set (block w i) k v
+  pub store-in : (i k : ℕ) → k < width → entryWords (set w (startOf i + k) v) i ≡ set (entryWords w i) k v
   store-in i k l = ap (take width) (drop-set-add (startOf i) w k v) ∙ take-set-lt width (drop (startOf i) w) k v l
 
-  pub store-after : (i k : ℕ) → width ≤ k → block (set w (startOf i + k) v) i ≡ block w i
+  pub store-after : (i k : ℕ) → width ≤ k → entryWords (set w (startOf i + k) v) i ≡ entryWords w i
   store-after i k l = ap (take width) (drop-set-add (startOf i) w k v) ∙ take-set-le width (drop (startOf i) w) k v l
 
 -- and one at the status cancels the entry.
@@ -102,16 +99,16 @@ module _ (w : List ℕ) (n : ℕ) (ws : List ℕ) (fits : startOf n + width ≤ 
   head-length : length (take at w) ≡ at
   head-length = length-take-le at w (omega arith)
 
-  pub added-before : (i : ℕ) → i < n → block pasted i ≡ block w i
+  pub added-before : (i : ℕ) → i < n → entryWords pasted i ≡ entryWords w i
   added-before i l =
       let a : (startOf i) + width ≤ length (take at w) = rw head-length (omega arith) in
-      ap (λ l. block l i) opened
+      ap (λ l. entryWords l i) opened
       ∙ part-front (take at w) (take width ws ++ drop (at + width) w) (startOf i) width a
       ∙ sym (rw (take-append-drop at w) at (part-front (take at w) (drop at w) (startOf i) width a))
 
-  pub added-there : block pasted n ≡ ws
+  pub added-there : entryWords pasted n ≡ ws
   added-there =
-      ap (λ l. block l n) opened
+      ap (λ l. entryWords l n) opened
       ∙ (ap (take width) (drop-at (take at w) (take width ws ++ drop (at + width) w) at head-length)
       ∙ (ap (λ l. take width (l ++ drop (at + width) w)) (take-all width ws (omega (arith, long))) ∙ take-at ws (drop (at + width) w) width long))
 

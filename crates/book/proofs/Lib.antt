@@ -1,5 +1,6 @@
-pub mod SameWords
-pub mod WordsAreDue
+pub mod ComparedWords
+pub mod AmountsAreDue
+pub mod QuestionPlaces
 pub mod QuestionWords
 pub mod EntryWords
 pub mod NumbersDiffer
@@ -9,3 +10,5 @@ pub mod ChangedEntries
 pub mod StaysSound
 pub mod BalanceSums
 pub mod TotalIsSum
+pub mod EntryMeaning
+pub mod BookMeaning

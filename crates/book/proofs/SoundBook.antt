@@ -11,11 +11,11 @@ use lib.Seq.{getD-drop}
 use borrow.Author.Tests.{eqb-true, leb-true, eq-eqb, le-leb}
 use Rattle.common.specs.Lists.{every, same}
 use Rattle.common.proofs.Tests.{both-true}
-use Rattle.common.proofs.Lists.{every-at, zero-at, upto-length, upto-at}
-use Rattle.fares.specs.Question.{between, inLimits}
+use Rattle.common.proofs.Lists.{every-at, zero-at, upto-length, upto-at, first-length, first-at}
+use Rattle.fares.specs.Question.{between, noLeg, legsOf, legInLimits, limitsOf, inLimits}
 use Rattle.fares.specs.Reductions.{partBound}
 use Rattle.fares.proofs.FareLaws.{asked as asked-of}
-use Rattle.book.specs.Words.{Entry, noEntry, capacity, bookLength, startOf, countOf, entries, entryAt, questionOf, questionWords}
+use Rattle.book.specs.Words.{Entry, noEntry, capacity, bookLength, startOf, countOf, entries, entryAt, legOf, questionOf, questionWords}
 use Rattle.book.specs.Sound.{isZero, numberInLimits, askedSound, entrySound, numbersDiffer, soundWords}
 
 pub record IsSound (w : List ℕ) : Type 0 where
@@ -60,12 +60,22 @@ sound-entry e g =
       spared = every-at (λ b. b) _ g 5 true (omega arith);
     }
 
--- the question of a sound entry, and its leg count
+-- the question of a sound entry, its leg count and its legs
 pub asked-limits : (ws : List ℕ) → askedSound ws ≡ true → inLimits (questionOf ws) ≡ true
 asked-limits ws e = both-true (inLimits (questionOf ws)) (same ws (questionWords (questionOf ws))) e .0
 
 pub few-legs : (ws : List ℕ) → askedSound ws ≡ true → questionOf ws .count ≤ 8
 few-legs ws e = asked-of (questionOf ws) (asked-limits ws e) .few
+
+pub leg-limits : (ws : List ℕ) → askedSound ws ≡ true → (k : ℕ) → k < questionOf ws .count → legInLimits (legOf ws k) ≡ true
+unfolding inLimits questionOf
+leg-limits ws e k l =
+    let q = questionOf ws in
+    let n = first-length noLeg (q .count) (q .legs) in
+    let t : every legInLimits (legsOf q) ≡ true = every-at (λ b. b) (limitsOf q) (asked-limits ws e) 5 true (omega arith) in
+    let h : legInLimits (getD (legsOf q) k noLeg) ≡ true = every-at legInLimits (legsOf q) t k noLeg (omega (arith, n)) in
+    let x : getD (legsOf q) k noLeg ≡ legOf ws k = first-at noLeg (q .count) (q .legs) k l ∙ upto-at (legOf ws) 8 k noLeg (omega (arith, few-legs ws e)) in
+    rw x at h
 
 -- what is zero from n on, and so the parts from the leg count on
 pub zero-from : (xs : List ℕ) (n : ℕ) → every isZero (drop n xs) ≡ true → (k : ℕ) → n ≤ k → getD xs k 0 ≡ 0

@@ -5,22 +5,19 @@ use Prim.Native.Nat.{ℕ, _+_, _≤_, _<_}
 use mathlib.Core.Path.{_≡_, refl, sym, _∙_, ap, ap₂}
 use mathlib.Core.Bool.{Bool, true, false, cond}
 use mathlib.Core.List.{List, [], _∷_}
-use mathlib.Core.Logic.{_⊎_, ⊎-elim}
-use native.Mathlib.Omega.{arith}
+use mathlib.Core.Logic.{⊎-elim}
 use lib.Dec.{eqb, leb}
 use lib.ListN.{getD}
 use Rattle.common.specs.Lists.{sum, every, upTo}
 use Rattle.common.proofs.Tests.{side, both-true, either-way, in-range}
-use Rattle.common.proofs.Lists.{every-at, upto-at, upto-same, first-length, first-at}
+use Rattle.common.proofs.Lists.{upto-same}
 use Rattle.common.proofs.Sums.{sum-both, sum-nothing, sum-swapped, hits, one-hit}
 use Rattle.layout.specs.Company.{isRailway}
-use Rattle.fares.specs.Question.{noLeg, legsOf, legInLimits, inLimits, limitsOf}
 use Rattle.fares.specs.declared.Question.{Question}
-use Rattle.fares.proofs.FareLaws.{asked as asked-of}
-use Rattle.book.specs.Words.{Entry, entries, questionOf, railwayAt, fareAt, legOf}
+use Rattle.book.specs.Words.{Entry, entries, questionOf, railwayAt, fareAt}
 use Rattle.book.specs.Sound.{entrySound, soundWords}
 use Rattle.book.specs.Amounts.{legPart, ofRailway, ofAll, liveAmount, balanceOf}
-use Rattle.book.proofs.SoundBook.{sound-entry, no-part, asked-limits, is-sound}
+use Rattle.book.proofs.SoundBook.{sound-entry, leg-limits, no-part, is-sound}
 
 nothing-owed : (n : ℕ) → sum (upTo (λ r. balanceOf (ofRailway (r + 1)) []) n) ≡ balanceOf ofAll []
 unfolding balanceOf sum
@@ -42,20 +39,9 @@ module _ (e : Entry) (g : entrySound e ≡ true) where
   abbrev q : Question
   q = questionOf asked
 
-  in-limits : inLimits q ≡ true
-  in-limits = asked-limits asked (sound-entry e g .asked-well)
-
-  few : q .count ≤ 8
-  few = asked-of q in-limits .few
-
   railway-in : (j : ℕ) → j < q .count → isRailway (getD asked (railwayAt j) 0) ≡ true
-  unfolding inLimits questionOf
   railway-in j l =
-      let n = first-length noLeg (q .count) (q .legs) in
-      let t : every legInLimits (legsOf q) ≡ true = every-at (λ b. b) (limitsOf q) in-limits 5 true (omega arith) in
-      let h : legInLimits (getD (legsOf q) j noLeg) ≡ true = every-at legInLimits (legsOf q) t j noLeg (omega (arith, n)) in
-      let x : getD (legsOf q) j noLeg ≡ legOf asked j = first-at noLeg (q .count) (q .legs) j l ∙ upto-at (legOf asked) 8 j noLeg (omega (arith, few)) in
-      both-true (isRailway (getD asked (railwayAt j) 0)) (leb (getD asked (fareAt j) 0) 999999) (rw x at h) .0
+      both-true (isRailway (getD asked (railwayAt j) 0)) (leb (getD asked (fareAt j) 0) 999999) (leg-limits asked (sound-entry e g .asked-well) j l) .0
 
   abbrev railway : ℕ → ℕ
   railway j = getD asked (railwayAt j) 0

@@ -1,5 +1,6 @@
 pub mod Words
 pub mod Sound
+pub mod Meaning
 pub mod Due
 pub mod SameQuestion
 pub mod Changes

@@ -5,7 +5,6 @@ use Prim.Native.Nat.{ℕ, _<_}
 use mathlib.Core.Path.{_≡_}
 use lib.ListN.{getD}
 use Rattle.fares.specs.Question.{noLeg}
-use Rattle.fares.specs.declared.Leg.{Leg}
 use Rattle.fares.specs.declared.Question.{Question}
 
 pub record SameQuestion (q q′ : Question) : Type 0 where

@@ -151,8 +151,11 @@ countOf book = getD book 0 0
 abbrev pub startOf : ℕ → ℕ
 startOf i = 1 + i * width
 
+abbrev pub entryWords : List ℕ → ℕ → List ℕ
+entryWords book i = take width (drop (startOf i) book)
+
 abbrev pub entryAt : List ℕ → ℕ → Entry
-entryAt book i = entryOf (take width (drop (startOf i) book))
+entryAt book i = entryOf (entryWords book i)
 
 -- the entries in use, in order of booking
 unfoldable pub entries : List ℕ → List Entry

@@ -30,7 +30,7 @@ use Rattle.sales.specs.declared.Sum.the-variants.{Amount}
 use Rattle.book.proofs.EntryWords.{cancelledEntry}
 use Rattle.book.proofs.SoundBook.{IsSound, sound-is}
 use Rattle.book.proofs.StaysSound.{cancelling}
-use Rattle.book.proofs.WordsAreDue.{Counts, counts-railway, counts-all}
+use Rattle.book.proofs.AmountsAreDue.{Counts, counts-railway, counts-all}
 use Rattle.sales.proofs.SaleAndCancel.{saleNumberOf, same-sale-number, saleNumbersOf, not-booked, sold-due, books-priced, sale-entries, sale-sound, cancel-after}
 
 -- what the entries of a book come to once the operations have gone over them: those that are live and that no operation cancels

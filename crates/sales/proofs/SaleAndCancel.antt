@@ -36,7 +36,7 @@ use Rattle.book.proofs.NumbersDiffer.{has-number, held-only}
 use Rattle.book.proofs.SoundBook.{IsSound, sound-is, sound-entry, zero-from, entries-length}
 use Rattle.book.proofs.ChangedEntries.{entries-added}
 use Rattle.book.proofs.QuestionWords.{words-length}
-use Rattle.book.proofs.WordsAreDue.{Counts}
+use Rattle.book.proofs.AmountsAreDue.{Counts}
 use Rattle.book.proofs.StaysSound.{cancelling, same-number, booking-sound, added-sound, cancelled-after}
 use Rattle.book.specs.Changes.{added, cancelledAt}
 

@@ -24,7 +24,7 @@ use Rattle.sales.specs.History.{Number, Op, sale, cancel, emptyBook, aft
 use Rattle.sales.specs.Helpers.{againAnswer}
 use Rattle.book.proofs.EntryWords.{cancelledEntry}
 use Rattle.book.proofs.SoundBook.{IsSound, sound-is}
-use Rattle.book.proofs.SameWords.{same-words, other-words}
+use Rattle.book.proofs.ComparedWords.{same-words, other-words}
 use Rattle.fares.proofs.FareLaws.{asked}
 use Rattle.book.proofs.StaysSound.{cancelling}
 use Rattle.sales.proofs.SaleAndCancel.{saleNumberOf, same-sale-number, saleNumbersOf, books-is, not-booked, sale-entries, sale-sound, cancel-after, books-number, books-priced, priced-in-limits, at-place}

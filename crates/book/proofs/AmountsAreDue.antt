@@ -18,7 +18,7 @@ use Rattle.fares.specs.declared.Question.{Question}
 use Rattle.book.specs.Words.{railwayAt, legAt, legOf, questionWords}
 use Rattle.book.specs.Amounts.{legPart, ofRailway, ofAll}
 use Rattle.book.specs.Due.{carriedBy, anyLeg, dueFrom}
-use Rattle.book.proofs.SameWords.{used}
+use Rattle.book.proofs.ComparedWords.{used}
 
 -- a count over words is one over legs: what it makes of a question's words is due from the question
 pub record Counts (f : List ℕ → List ℕ → ℕ) (legs : Leg → Bool) : Type 0 where
@@ -32,16 +32,17 @@ zeros-behind f n z (suc m) =
     rw (e, sum-up f (n + m)) (omega (arith, z (n + m) (omega arith), zeros-behind f n z m))
 
 module _ (q : Question) where
-  -- the railway of a leg, where the words have it
+  -- a leg, as the words say it
   legs-said : upTo (legOf (questionWords q)) 8 ≡ upTo (legAt q) 8
   unfolding questionWords upTo flatMap
   legs-said = refl
 
+  pub leg-said : (k : ℕ) → k < 8 → legOf (questionWords q) k ≡ legAt q k
+  leg-said k m =
+      sym (upto-at (legOf (questionWords q)) 8 k noLeg m) ∙ (ap (λ legs. getD legs k noLeg) legs-said ∙ upto-at (legAt q) 8 k noLeg m)
+
   railway-said : (k : ℕ) → k < q .count → k < 8 → getD (questionWords q) (railwayAt k) 0 ≡ getD (q .legs) k noLeg .railway
-  railway-said k l m =
-      ap (λ leg. leg .railway)
-      (sym (upto-at (legOf (questionWords q)) 8 k noLeg m)
-      ∙ (ap (λ legs. getD legs k noLeg) legs-said ∙ (upto-at (legAt q) 8 k noLeg m ∙ used q k l)))
+  railway-said k l m = ap (λ leg. leg .railway) (leg-said k m ∙ used q k l)
 
   module _ (parts : List ℕ) (few : q .count ≤ 8) (unused : (k : ℕ) → q .count ≤ k → getD parts k 0 ≡ 0) where
     -- over the eight slots as over the legs

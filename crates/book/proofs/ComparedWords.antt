@@ -1,18 +1,17 @@
 -- Words are compared, and questions are meant: those of two questions are the same exactly if the questions are.
 -- Assumes nothing.
 use Prim.Native.Nat.{ℕ, _≤_, _<_}
-use mathlib.Core.Path.{_≡_, refl, sym, _∙_, ap, ap₂}
+use mathlib.Core.Path.{_≡_, refl, sym, _∙_, ap}
 use mathlib.Core.Bool.{Bool, true, false, cond}
-use mathlib.Core.List.{List, _∷_, _++_, flatMap}
+use mathlib.Core.List.{flatMap}
 use native.Mathlib.Omega.{arith}
 use lib.Dec.{ltb}
 use lib.ListN.{getD}
 use borrow.Author.Tests.{lt-ltb, ltb-true}
 use Rattle.common.specs.Lists.{same, upTo}
 use Rattle.common.proofs.Lists.{upto-at, upto-same, is-same, same-is}
-use Rattle.common.proofs.Tests.{never, refuted}
+use Rattle.common.proofs.Tests.{refuted}
 use Rattle.fares.specs.Question.{noLeg}
-use Rattle.fares.specs.declared.Leg.{Leg}
 use Rattle.fares.specs.declared.Question.{Question}
 use Rattle.book.specs.Words.{offerAt, dayAt, cardsAt, countAt, personsAt, legAt, questionWords, questionOf}
 use Rattle.book.specs.SameQuestion.{SameQuestion}

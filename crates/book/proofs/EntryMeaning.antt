@@ -1,0 +1,204 @@
+-- The check of an entry finds what a sound sale is: value by value, both ways.
+-- Assumes nothing.
+use Prim.Native.Nat.{ℕ, _+_, _-_, _≤_, _<_}
+use mathlib.Core.Path.{_≡_, refl, sym, _∙_, ap, subst}
+use mathlib.Core.Bool.{true}
+use mathlib.Core.List.{List}
+use mathlib.Core.Logic.{_⊎_, inl, inr, ⊎-elim}
+use native.Mathlib.Omega.{arith}
+use lib.Dec.{leb}
+use lib.ListN.{length, getD, drop, length-take, length-drop}
+use lib.Seq.{ext-getD, getD-take, getD-drop}
+use borrow.Author.Tests.{leb-true, le-leb, eq-eqb}
+use Rattle.common.specs.Lists.{every}
+use Rattle.common.proofs.Lists.{every-at, every-by, zero-at, is-same, first-length, first-at, upto-at}
+use Rattle.common.proofs.Tests.{order, side, both-true, in-range}
+use Rattle.layout.specs.Company.{isRailway}
+use Rattle.layout.specs.Dates.{isDay}
+use Rattle.fares.specs.Question.{between, noLeg, legsOf, legInLimits, limitsOf, inLimits}
+use Rattle.fares.specs.Reductions.{partBound}
+use Rattle.fares.specs.declared.Question.{Question}
+use Rattle.book.specs.Words.{Entry, offerAt, dayAt, cardsAt, countAt, personsAt, railwayAt, fareAt, legOf, questionWidth, questionOf, questionWords, sequenceAt, askedAt, partsAt, statusAt, spareAt, width, entryOf}
+use Rattle.book.specs.Sound.{isZero, numberInLimits, askedSound, entrySound}
+use Rattle.book.specs.Meaning.{Within, word, askedWord, Used, till, sequence, offer, day, persons, card, count, railway, fare, part, status, SoundSale}
+use Rattle.book.proofs.QuestionPlaces.{places, used-again}
+use Rattle.book.proofs.QuestionWords.{words-length, asked-again}
+use Rattle.book.proofs.EntryWords.{asked-at, part-at, count-at}
+use Rattle.book.proofs.SoundBook.{SoundEntry, sound-entry, asked-limits, leg-limits, no-part}
+
+module _ (b : List ℕ) (long : length b ≡ width) where
+  abbrev e : Entry
+  e = entryOf b
+
+  abbrev ws : List ℕ
+  ws = e .asked
+
+  abbrev q : Question
+  q = questionOf ws
+
+  abbrev n : ℕ
+  n = askedWord b countAt
+
+  parts-long : length (e .parts) ≡ 8
+  parts-long = rw (length-take, length-drop) (omega arith)
+
+  spare-at : (j : ℕ) → j < 2 → getD (e .spare) j 0 ≡ word b (spareAt + j)
+  spare-at j l = getD-take 2 (drop spareAt b) j 0 l ∙ getD-drop spareAt b j 0
+
+  -- FOUND SOUND, an entry is a sound sale
+  module _ (g : entrySound e ≡ true) where
+    abbrev s : SoundEntry e
+    s = sound-entry e g
+
+    limit : (k : ℕ) → k < 6 → getD (limitsOf q) k true ≡ true
+    unfolding inLimits
+    limit k l = every-at (λ t. t) (limitsOf q) (asked-limits ws (s .asked-well)) k true l
+
+    number : (between 1 65535 (e .till) ≡ true) × (between 1 4294967295 (e .sequence) ≡ true)
+    number = both-true (between 1 65535 (e .till)) (between 1 4294967295 (e .sequence)) (s .number)
+
+    leg : (k : ℕ) → k < n → (isRailway (getD ws (railwayAt k) 0) ≡ true) × (leb (getD ws (fareAt k) 0) 999999 ≡ true)
+    leg k l = both-true (isRailway (getD ws (railwayAt k) 0)) (leb (getD ws (fareAt k) 0) 999999) (leg-limits ws (s .asked-well) k (rw (count-at b) l))
+
+    few : n ≤ 8
+    unfolding questionOf
+    few = rw (asked-at b countAt (omega arith)) at (in-range 1 (q .count) 8 (limit 4 (omega arith)) .1)
+
+    -- a place of the question, of the parts, and any
+    in-question : (r : ℕ) → r < questionWidth → Used n (askedAt + r) ⊎ (word b (askedAt + r) ≡ 0)
+    in-question r l =
+        ⊎-elim (λ u. inl (subst (λ m. Used m (askedAt + r)) (count-at b) u))
+        (λ z. inr (sym (asked-at b r l) ∙ (ap (λ x. getD x r 0) (sym (asked-again ws (s .asked-well))) ∙ z))) (places q r l)
+
+    in-parts : (k : ℕ) → k < 8 → Used n (partsAt + k) ⊎ (word b (partsAt + k) ≡ 0)
+    in-parts k l = ⊎-elim (λ h. inl (part k h refl)) (λ h. inr (sym (part-at b k l) ∙ no-part e g k (rw (count-at b) h))) (side k n)
+
+    abbrev Place : ℕ → Type 0
+    Place p = Used n p ⊎ (word b p ≡ 0)
+
+    spared : (p : ℕ) → p < width → statusAt < p → Place p
+    spared p l h =
+        let i : spareAt + (p - spareAt) ≡ p = omega arith in
+        subst Place i (inr (sym (spare-at (p - spareAt) (omega arith)) ∙ zero-at (e .spare) (s .spared) (p - spareAt)))
+
+    in-entry : (p : ℕ) → p < width → Place p
+    in-entry p l =
+        ⊎-elim (λ h. ⊎-elim (λ a. inl (till (omega arith))) (λ a. inl (sequence (omega arith))) (side p sequenceAt))
+        (λ h. ⊎-elim (λ a. let i : askedAt + (p - askedAt) ≡ p = omega arith in subst Place i (in-question (p - askedAt) (omega arith)))
+        (λ a. ⊎-elim (λ c. let i : partsAt + (p - partsAt) ≡ p = omega arith in subst Place i (in-parts (p - partsAt) (omega arith)))
+        (⊎-elim (λ c. inl (status c)) (spared p l)) (order p statusAt)) (side p partsAt)) (side p askedAt)
+
+    pub means : SoundSale b
+    unfolding questionOf isRailway
+    means =
+        record {
+          till = in-range 1 (e .till) 65535 (number .0);
+          sequence = in-range 1 (e .sequence) 4294967295 (number .1);
+          offer = rw (asked-at b offerAt (omega arith)) at (in-range 1 (q .offer) 99999 (limit 0 (omega arith)));
+          day = rw (asked-at b dayAt (omega arith)) at (limit 1 (omega arith));
+          persons = rw (asked-at b personsAt (omega arith)) at (in-range 1 (q .persons) 99 (limit 2 (omega arith)));
+          card = rw (asked-at b cardsAt (omega arith)) at (in-range 0 (q .card) 999 (limit 3 (omega arith)) .1);
+          count = rw (asked-at b countAt (omega arith)) at (in-range 1 (q .count) 8 (limit 4 (omega arith)));
+          railways = λ k l. rw (asked-at b (railwayAt k) (omega (arith, few))) at (in-range 1 (getD ws (railwayAt k) 0) 9999 (leg k l .0));
+          fares = λ k l. rw (asked-at b (fareAt k) (omega (arith, few))) at (leb-true (getD ws (fareAt k) 0) 999999 (leg k l .1));
+          parts = λ k l.
+              rw (part-at b k (omega (arith, few))) at (leb-true (getD (e .parts) k 0) partBound (every-at (λ p. leb p partBound) (e .parts) (s .bounded) k 0 (omega (arith, few, parts-long))));
+          status = leb-true (e .status) 1 (s .live-or-not);
+          unused = in-entry;
+        }
+
+  -- A SOUND SALE is found sound
+  module _ (s : SoundSale b) where
+    said-count : q .count ≡ n
+    said-count = count-at b
+
+    few-said : q .count ≤ 8
+    few-said = omega (arith, said-count, s .count)
+
+    between-by : (lowest highest v x : ℕ) → x ≡ v → Within lowest highest v → between lowest highest x ≡ true
+    between-by lowest highest v x i h = rw (i, le-leb lowest v (h .0), le-leb v highest (h .1))
+
+    number-found : numberInLimits (e .till) (e .sequence) ≡ true
+    number-found = rw (between-by 1 65535 _ (e .till) refl (s .till), between-by 1 4294967295 _ (e .sequence) refl (s .sequence))
+
+    leg-found : (k : ℕ) → k < n → k < 8 → legInLimits (legOf ws k) ≡ true
+    unfolding isRailway
+    leg-found k l m =
+        let r = s .railways k l in
+        rw (asked-at b (railwayAt k) (omega arith), asked-at b (fareAt k) (omega arith), le-leb 1 _ (r .0), le-leb _ 9999 (r .1), le-leb _ 999999 (s .fares k l))
+
+    legs-found : every legInLimits (legsOf q) ≡ true
+    unfolding questionOf
+    legs-found =
+        every-by legInLimits noLeg (legsOf q)
+        (λ k l. let m : k < q .count = omega (arith, first-length noLeg (q .count) (q .legs)) in
+        let i : getD (legsOf q) k noLeg ≡ legOf ws k = first-at noLeg (q .count) (q .legs) k m ∙ upto-at (legOf ws) 8 k noLeg (omega (arith, few-said)) in
+        rw i (leg-found k (omega (arith, said-count)) (omega (arith, few-said))))
+
+    limits-found : inLimits q ≡ true
+    unfolding inLimits every questionOf
+    limits-found =
+        let o = between-by 1 99999 _ (q .offer) (asked-at b offerAt (omega arith)) (s .offer) in
+        let d = ap isDay (asked-at b dayAt (omega arith)) ∙ s .day in
+        let p = between-by 1 99 _ (q .persons) (asked-at b personsAt (omega arith)) (s .persons) in
+        let c = between-by 0 999 _ (q .card) (asked-at b cardsAt (omega arith)) (omega arith, s .card) in
+        rw (o, d, p, c, between-by 1 8 _ (q .count) said-count (s .count), legs-found)
+
+    -- the words are those of the question that they say: a place is used, or it is zero in both
+    word-again : (r : ℕ) → r < questionWidth → getD ws r 0 ≡ getD (questionWords q) r 0
+    word-again r l = ⊎-elim by-use (λ z. ⊎-elim by-own-use (λ y. asked-at b r l ∙ (y ∙ sym z)) (s .unused (askedAt + r) (omega arith))) (places q r l)
+      where
+        by-use : Used (q .count) (askedAt + r) → getD ws r 0 ≡ getD (questionWords q) r 0
+        by-use u = sym (used-again ws few-said r l u)
+
+        by-own-use : Used n (askedAt + r) → getD ws r 0 ≡ getD (questionWords q) r 0
+        by-own-use u = by-use (subst (λ m. Used m (askedAt + r)) (sym said-count) u)
+
+    asked-found : askedSound ws ≡ true
+    asked-found =
+        let k : length ws ≡ questionWidth = rw (length-take, length-drop) (omega arith) in
+        let i : ws ≡ questionWords q = ext-getD 0 ws (questionWords q) (k ∙ sym (words-length q)) (λ r l. word-again r (omega arith)) in
+        rw (limits-found, is-same ws (questionWords q) i)
+
+    -- behind the parts of the legs only the status is used
+    behind : (p : ℕ) → partsAt + n ≤ p → p < width → (p ≡ statusAt → ⊥) → word b p ≡ 0
+    behind p h l no-status = ⊎-elim unless-used (λ z. z) (s .unused p l)
+      where
+        unless-used : Used n p → word b p ≡ 0
+        unless-used (till i) = absurd (omega arith)
+        unless-used (sequence i) = absurd (omega arith)
+        unless-used (offer i) = absurd (omega arith)
+        unless-used (day i) = absurd (omega arith)
+        unless-used (persons i) = absurd (omega arith)
+        unless-used (card i) = absurd (omega arith)
+        unless-used (count i) = absurd (omega arith)
+        unless-used (railway k m i) = absurd (omega (arith, s .count))
+        unless-used (fare k m i) = absurd (omega (arith, s .count))
+        unless-used (part k m i) = absurd (omega arith)
+        unless-used (status i) = absurd (no-status i)
+
+    no-part-at : (k : ℕ) → n ≤ k → k < 8 → getD (e .parts) k 0 ≡ 0
+    no-part-at k h l = part-at b k l ∙ behind (partsAt + k) (omega arith) (omega arith) (λ i. omega arith)
+
+    bounded-found : every (λ p. leb p partBound) (e .parts) ≡ true
+    bounded-found =
+        every-by (λ p. leb p partBound) 0 (e .parts)
+        (λ k l. let m : k < 8 = omega (arith, parts-long) in
+        le-leb (getD (e .parts) k 0) partBound
+        (⊎-elim (λ h. rw (part-at b k m) (s .parts k h)) (λ h. omega (arith, no-part-at k h m)) (side k n)))
+
+    unused-found : every isZero (drop (q .count) (e .parts)) ≡ true
+    unused-found =
+        every-by isZero 0 (drop (q .count) (e .parts))
+        (λ j l. let m : q .count + j < 8 = omega (arith, parts-long, length-drop (q .count) (e .parts)) in
+        eq-eqb _ 0 (getD-drop (q .count) (e .parts) j 0 ∙ no-part-at (q .count + j) (omega (arith, said-count)) m))
+
+    spare-found : every isZero (e .spare) ≡ true
+    spare-found =
+        let k : length (e .spare) ≡ 2 = rw (length-take, length-drop) (omega arith) in
+        every-by isZero 0 (e .spare)
+        (λ j l. eq-eqb _ 0 (spare-at j (omega arith) ∙ behind (spareAt + j) (omega (arith, s .count)) (omega arith) (λ i. omega arith)))
+
+    pub meant : entrySound e ≡ true
+    unfolding entrySound every
+    meant = rw (number-found, asked-found, bounded-found, unused-found, le-leb (e .status) 1 (s .status), spare-found)

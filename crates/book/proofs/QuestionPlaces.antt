@@ -1,0 +1,127 @@
+-- Each place of a question's words holds a value of the question, or zero; and the words of the question that words say have, at the places that are
+-- used, those very words.
+-- Assumes nothing.
+use Prim.Native.Nat.{ℕ, _+_, _-_, _/_, _%_, _≤_, _<_}
+use mathlib.Core.Path.{_≡_, refl, sym, _∙_, ap, subst}
+use mathlib.Core.List.{List, flatMap}
+use mathlib.Core.Logic.{_⊎_, inl, inr, ⊎-elim}
+use native.Mathlib.Omega.{arith}
+use lib.ListN.{getD}
+use borrow.Author.Tests.{le-ltb}
+use Rattle.common.specs.Lists.{upTo}
+use Rattle.common.proofs.Lists.{upto-at}
+use Rattle.common.proofs.Tests.{order, side}
+use Rattle.fares.specs.Question.{noLeg}
+use Rattle.fares.specs.declared.Question.{Question}
+use Rattle.book.specs.Words.{offerAt, dayAt, cardsAt, cardsWidth, countAt, pairsAt, pairsWidth, personsAt, legsAt, legWidth, questionWidth, railwayAt, fareAt, legOf, questionWords, questionOf, askedAt}
+use Rattle.book.specs.Meaning.{Used, till, sequence, offer, day, persons, card, count, railway, fare, part, status}
+use Rattle.book.proofs.ComparedWords.{used}
+use Rattle.book.proofs.AmountsAreDue.{leg-said}
+
+-- what is zero in a row
+zeros : (f : ℕ → ℕ) (m : ℕ) → upTo f m ≡ upTo (λ k. 0) m → (k : ℕ) → k < m → f k ≡ 0
+zeros f m e k l = sym (upto-at f m k 0 l) ∙ (ap (λ xs. getD xs k 0) e ∙ upto-at (λ j. 0) m k 0 l)
+
+module _ (q : Question) where
+  abbrev pub Place : ℕ → Type 0
+  Place r = Used (q .count) (askedAt + r) ⊎ (getD (questionWords q) r 0 ≡ 0)
+
+  -- before the legs: further cards, the category, and further pairs are zero
+  more-cards : (k : ℕ) → k < cardsWidth - 1 → getD (questionWords q) (cardsAt + 1 + k) 0 ≡ 0
+  unfolding questionWords upTo
+  more-cards = zeros (λ k. getD (questionWords q) (cardsAt + 1 + k) 0) (cardsWidth - 1) refl
+
+  category : getD (questionWords q) pairsAt 0 ≡ 0
+  unfolding questionWords
+  category = refl
+
+  more-pairs : (k : ℕ) → k < pairsWidth - 2 → getD (questionWords q) (pairsAt + 2 + k) 0 ≡ 0
+  unfolding questionWords upTo
+  more-pairs = zeros (λ k. getD (questionWords q) (pairsAt + 2 + k) 0) (pairsWidth - 2) refl
+
+  -- a leg: its railway and fare, unless it is not used, and two words that are zero
+  no-leg : (k : ℕ) → k < 8 → q .count ≤ k → legOf (questionWords q) k ≡ noLeg
+  no-leg k l m = leg-said q k l ∙ rw (le-ltb k (q .count) m)
+
+  third : (k : ℕ) → k < 8 → getD (questionWords q) (railwayAt k + 2) 0 ≡ 0
+  unfolding questionWords upTo flatMap
+  third = zeros (λ k. getD (questionWords q) (railwayAt k + 2) 0) 8 refl
+
+  fourth : (k : ℕ) → k < 8 → getD (questionWords q) (railwayAt k + 3) 0 ≡ 0
+  unfolding questionWords upTo flatMap
+  fourth = zeros (λ k. getD (questionWords q) (railwayAt k + 3) 0) 8 refl
+
+  leg-places : (k : ℕ) → k < 8 → Place (railwayAt k) × Place (fareAt k)
+  leg-places k l =
+      ⊎-elim (λ m. (inl (railway k m refl), inl (fare k m refl)))
+      (λ m. (inr (ap (λ leg. leg .railway) (no-leg k l m)), inr (ap (λ leg. leg .fare) (no-leg k l m)))) (side k (q .count))
+
+  -- every place, before the legs and among them
+  before-legs : (r : ℕ) → r < legsAt → Place r
+  before-legs r l = ⊎-elim first (⊎-elim (λ e. inl (count (omega arith))) last) (order r countAt)
+    where
+      at-zero : (p : ℕ) → r ≡ p → getD (questionWords q) p 0 ≡ 0 → Place r
+      at-zero p e z = inr (ap (λ i. getD (questionWords q) i 0) e ∙ z)
+
+      first : r < countAt → Place r
+      first a =
+          ⊎-elim (λ h. ⊎-elim (λ b. inl (offer (omega arith))) (λ b. inl (day (omega arith))) (side r dayAt))
+          (⊎-elim (λ e. inl (card (omega arith))) (λ h. at-zero (cardsAt + 1 + (r - (cardsAt + 1))) (omega arith) (more-cards (r - (cardsAt + 1)) (omega arith))))
+          (order r cardsAt)
+
+      last : countAt < r → Place r
+      last a =
+          ⊎-elim (λ h. at-zero pairsAt (omega arith) category)
+          (⊎-elim (λ e. inl (persons (omega arith))) (λ h. at-zero (pairsAt + 2 + (r - (pairsAt + 2))) (omega arith) (more-pairs (r - (pairsAt + 2)) (omega arith))))
+          (order r personsAt)
+
+  module _ (r : ℕ) (a : legsAt ≤ r) (b : r < questionWidth) where
+    abbrev leg : ℕ
+    leg = (r - legsAt) / legWidth
+
+    abbrev rest : ℕ
+    rest = (r - legsAt) % legWidth
+
+    inside : leg < 8
+    inside = omega arith
+
+    value-or-none : rest < 2 → Place r
+    value-or-none h =
+        ⊎-elim (λ z. let e : railwayAt leg ≡ r = omega arith in subst Place e (leg-places leg inside .0))
+        (λ z. let e : fareAt leg ≡ r = omega arith in subst Place e (leg-places leg inside .1)) (side rest 1)
+
+    kept-zero : 2 ≤ rest → Place r
+    kept-zero h =
+        ⊎-elim (λ z. let e : railwayAt leg + 2 ≡ r = omega arith in subst Place e (inr (third leg inside)))
+        (λ z. let e : railwayAt leg + 3 ≡ r = omega arith in subst Place e (inr (fourth leg inside))) (side rest 3)
+
+    among-legs : Place r
+    among-legs = ⊎-elim value-or-none kept-zero (side rest 2)
+
+  pub places : (r : ℕ) → r < questionWidth → Place r
+  places r l = ⊎-elim (before-legs r) (λ a. among-legs r a l) (side r legsAt)
+
+-- THE QUESTION THAT WORDS SAY has these words again, at each place that is used
+module _ (ws : List ℕ) (few : questionOf ws .count ≤ 8) where
+  abbrev said : Question
+  said = questionOf ws
+
+  leg-again : (k : ℕ) → k < said .count → legOf (questionWords said) k ≡ legOf ws k
+  unfolding questionOf
+  leg-again k l =
+      let m : k < 8 = omega arith in
+      leg-said said k m ∙ (used said k l ∙ upto-at (legOf ws) 8 k noLeg m)
+
+  pub used-again : (r : ℕ) → r < questionWidth → Used (said .count) (askedAt + r) → getD (questionWords said) r 0 ≡ getD ws r 0
+  unfolding questionWords questionOf
+  used-again r l (till e) = absurd (omega arith)
+  used-again r l (sequence e) = absurd (omega arith)
+  used-again r l (offer e) = let i : r ≡ offerAt = omega arith in rw i
+  used-again r l (day e) = let i : r ≡ dayAt = omega arith in rw i
+  used-again r l (persons e) = let i : r ≡ personsAt = omega arith in rw i
+  used-again r l (card e) = let i : r ≡ cardsAt = omega arith in rw i
+  used-again r l (count e) = let i : r ≡ countAt = omega arith in rw i
+  used-again r l (railway k h e) = let i : r ≡ railwayAt k = omega arith in rw i (ap (λ leg. leg .railway) (leg-again k h))
+  used-again r l (fare k h e) = let i : r ≡ fareAt k = omega arith in rw i (ap (λ leg. leg .fare) (leg-again k h))
+  used-again r l (part k h e) = absurd (omega arith)
+  used-again r l (status e) = absurd (omega arith)

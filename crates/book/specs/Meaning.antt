@@ -1,0 +1,59 @@
+-- WHAT A SOUND BOOK IS, value by value (document 01, 'The sales book': "A book is sound if its count is at most 256, its numbers differ, its fields are in
+-- the limits above, parts are within the bound, and unused places are zero"; the limits of a question are those of 'Pricing').
+-- Assumes nothing.
+use Prim.Native.Nat.{ℕ, _+_, _≤_, _<_}
+use mathlib.Core.Path.{_≡_}
+use mathlib.Core.Bool.{true}
+use mathlib.Core.List.{List}
+use mathlib.Core.Logic.{_⊎_}
+use lib.ListN.{length, getD}
+use Rattle.layout.specs.Dates.{isDay}
+use Rattle.book.specs.Words.{offerAt, dayAt, cardsAt, countAt, personsAt, railwayAt, fareAt, tillAt, sequenceAt, askedAt, partsAt, statusAt, width, bookLength, countOf, startOf, entryWords}
+
+abbrev pub Within : ℕ → ℕ → ℕ → Type 0
+Within lowest highest v = (lowest ≤ v) × (v ≤ highest)
+
+-- AN ENTRY, by its words: word p, and word p of its question
+abbrev pub word : List ℕ → ℕ → ℕ
+word ws p = getD ws p 0
+
+abbrev pub askedWord : List ℕ → ℕ → ℕ
+askedWord ws p = word ws (askedAt + p)
+
+-- the places that the sale of n legs uses
+pub data Used (n p : ℕ) : Type 0 where
+  till : p ≡ tillAt → Used n p
+  sequence : p ≡ sequenceAt → Used n p
+  offer : p ≡ askedAt + offerAt → Used n p
+  day : p ≡ askedAt + dayAt → Used n p
+  persons : p ≡ askedAt + personsAt → Used n p
+  card : p ≡ askedAt + cardsAt → Used n p
+  count : p ≡ askedAt + countAt → Used n p
+  railway : (k : ℕ) → k < n → p ≡ askedAt + railwayAt k → Used n p
+  fare : (k : ℕ) → k < n → p ≡ askedAt + fareAt k → Used n p
+  part : (k : ℕ) → k < n → p ≡ partsAt + k → Used n p
+  status : p ≡ statusAt → Used n p
+
+pub record SoundSale (ws : List ℕ) : Type 0 where
+  pub till : Within 1 65535 (word ws tillAt)
+  pub sequence : Within 1 4294967295 (word ws sequenceAt)
+  pub offer : Within 1 99999 (askedWord ws offerAt)
+  pub day : isDay (askedWord ws dayAt) ≡ true
+  pub persons : Within 1 99 (askedWord ws personsAt)
+  pub card : askedWord ws cardsAt ≤ 999
+  pub count : Within 1 8 (askedWord ws countAt)
+  pub railways : (k : ℕ) → k < askedWord ws countAt → Within 1 9999 (askedWord ws (railwayAt k))
+  pub fares : (k : ℕ) → k < askedWord ws countAt → askedWord ws (fareAt k) ≤ 999999
+  pub parts : (k : ℕ) → k < askedWord ws countAt → word ws (partsAt + k) ≤ 99197505
+  pub status : word ws statusAt ≤ 1
+  -- each other place is zero
+  pub unused : (p : ℕ) → p < width → Used (askedWord ws countAt) p ⊎ (word ws p ≡ 0)
+
+-- A BOOK: its entries are sound, those of one sale number are one, and everything behind them is zero
+pub record Sound (book : List ℕ) : Type 0 where
+  pub long : length book ≡ bookLength
+  pub few : countOf book ≤ 256
+  pub sales : (i : ℕ) → i < countOf book → SoundSale (entryWords book i)
+  pub differ : (i j : ℕ) → i < countOf book → j < countOf book → word (entryWords book i) tillAt ≡ word (entryWords book j) tillAt
+      → word (entryWords book i) sequenceAt ≡ word (entryWords book j) sequenceAt → i ≡ j
+  pub behind : (p : ℕ) → startOf (countOf book) ≤ p → word book p ≡ 0
