@@ -13,12 +13,20 @@ use Rattle.common.proofs.Lists.{upto-at, upto-same, is-same, same-is}
 use Rattle.common.proofs.Tests.{refuted}
 use Rattle.fares.specs.Question.{noLeg}
 use Rattle.fares.specs.declared.Question.{Question}
-use Rattle.book.specs.Words.{offerAt, dayAt, cardsAt, countAt, personsAt, legAt, questionWords, questionOf}
+use Rattle.book.specs.Words.{offerAt, dayAt, cardsAt, countAt, personsAt, legAt, legOf, questionWords}
 use Rattle.book.specs.SameQuestion.{SameQuestion}
 
--- a leg that is used is the slot's
-pub used : (q : Question) (k : ℕ) → k < q .count → legAt q k ≡ getD (q .legs) k noLeg
-used q k l = rw (lt-ltb k (q .count) l)
+-- a leg as the words say it, and one that is used
+module _ (q : Question) where
+  legs-said : upTo (legOf (questionWords q)) 8 ≡ upTo (legAt q) 8
+  unfolding questionWords upTo flatMap
+  legs-said = refl
+
+  pub leg-said : (k : ℕ) → k < 8 → legOf (questionWords q) k ≡ legAt q k
+  leg-said k m = sym (upto-at (legOf (questionWords q)) 8 k noLeg m) ∙ (ap (λ legs. getD legs k noLeg) legs-said ∙ upto-at (legAt q) 8 k noLeg m)
+
+  pub used-said : (k : ℕ) → k < q .count → k < 8 → legOf (questionWords q) k ≡ getD (q .legs) k noLeg
+  used-said k l m = leg-said k m ∙ rw (lt-ltb k (q .count) l)
 
 module _ (q q′ : Question) where
   module _ (few : q .count ≤ 8) (e : questionWords q ≡ questionWords q′) where
@@ -26,16 +34,10 @@ module _ (q q′ : Question) where
     unfolding questionWords
     same-count = ap (λ ws. getD ws countAt 0) e
 
-    legs-said : upTo (legAt q) 8 ≡ upTo (legAt q′) 8
-    unfolding questionOf questionWords upTo flatMap
-    legs-said = ap (λ ws. questionOf ws .legs) e
-
     same-leg : (k : ℕ) → k < q .count → getD (q .legs) k noLeg ≡ getD (q′ .legs) k noLeg
     same-leg k l =
         let m : k < 8 = omega arith in
-        sym (used q k l)
-        ∙ (sym (upto-at (legAt q) 8 k noLeg m)
-        ∙ (ap (λ legs. getD legs k noLeg) legs-said ∙ (upto-at (legAt q′) 8 k noLeg m ∙ used q′ k (omega (arith, same-count)))))
+        sym (used-said q k l m) ∙ (ap (λ ws. legOf ws k) e ∙ used-said q′ k (omega (arith, same-count)) m)
 
     words-mean : SameQuestion q q′
     unfolding questionWords

@@ -1,11 +1,10 @@
 pub mod ComparedWords
-pub mod AmountsAreDue
 pub mod QuestionPlaces
 pub mod QuestionWords
 pub mod EntryWords
 pub mod NumbersDiffer
 pub mod SoundBook
-pub mod BookIsDue
+pub mod AmountsAreDue
 pub mod ChangedEntries
 pub mod StaysSound
 pub mod BalanceSums

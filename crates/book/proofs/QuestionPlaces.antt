@@ -15,8 +15,7 @@ use Rattle.fares.specs.Question.{noLeg}
 use Rattle.fares.specs.declared.Question.{Question}
 use Rattle.book.specs.Words.{offerAt, dayAt, cardsAt, cardsWidth, countAt, pairsAt, pairsWidth, personsAt, legsAt, legWidth, questionWidth, railwayAt, fareAt, legOf, questionWords, questionOf, askedAt}
 use Rattle.book.specs.Meaning.{Used, till, sequence, offer, day, persons, card, count, railway, fare, part, status}
-use Rattle.book.proofs.ComparedWords.{used}
-use Rattle.book.proofs.AmountsAreDue.{leg-said}
+use Rattle.book.proofs.ComparedWords.{leg-said, used-said}
 
 -- what is zero in a row
 zeros : (f : ℕ → ℕ) (m : ℕ) → upTo f m ≡ upTo (λ k. 0) m → (k : ℕ) → k < m → f k ≡ 0
@@ -110,7 +109,7 @@ module _ (ws : List ℕ) (few : questionOf ws .count ≤ 8) where
   unfolding questionOf
   leg-again k l =
       let m : k < 8 = omega arith in
-      leg-said said k m ∙ (used said k l ∙ upto-at (legOf ws) 8 k noLeg m)
+      used-said said k l m ∙ upto-at (legOf ws) 8 k noLeg m
 
   pub used-again : (r : ℕ) → r < questionWidth → Used (said .count) (askedAt + r) → getD (questionWords said) r 0 ≡ getD ws r 0
   unfolding questionWords questionOf

@@ -1,6 +1,6 @@
 -- What the answers on a sale and a cancellation come to, case by case as the code finds them; and that what is written follows from the answer.
 -- Assumes nothing.
-use Prim.Native.Nat.{ℕ, _-_, _≤_, _<_}
+use Prim.Native.Nat.{ℕ, _≤_, _<_}
 use mathlib.Core.Path.{_≡_, refl, _∙_, ap, subst}
 use mathlib.Core.Bool.{Bool, true, false, cond, not, _&&_}
 use mathlib.Core.List.{List, [], _∷_}
@@ -91,10 +91,15 @@ module _ (w : List ℕ) (t s : ℕ) where
       unfolding cancelAnswer cancelChecks firstFault
       cancel-unknown l = rw (ok, n, is-absent l)
 
+      pub present-cancel : isPresent w t s ≡ true
+          → cancelAnswer w t s ≡ receipt (cond (eqb (present w t s .status) 0) Cancelled AlreadyCancelled) (present w t s .parts)
+      unfolding cancelAnswer cancelChecks firstFault
+      present-cancel l = rw (ok, n, l)
+
       pub cancel-known : at < countOf w
           → cancelAnswer w t s ≡ receipt (cond (eqb (entryAt w at .status) 0) Cancelled AlreadyCancelled) (entryAt w at .parts)
-      unfolding cancelAnswer cancelChecks firstFault
-      cancel-known l = rw (ok, n, is-present l, the-present l)
+      cancel-known l =
+          present-cancel (is-present l) ∙ ap (λ (e : Entry). receipt (cond (eqb (e .status) 0) Cancelled AlreadyCancelled) (e .parts)) (the-present l)
 
 -- a quote that is refused, and one that is priced
 module _ (b : List ℕ) (q : Question) where

@@ -20,9 +20,10 @@ use Rattle.fares.specs.Fare.{partsOf}
 use Rattle.fares.specs.declared.Leg.{Leg}
 use Rattle.fares.specs.declared.Question.{Question}
 use Rattle.book.specs.Words.{Entry, entries, countOf, bookLength, booking, startOf}
+use Rattle.book.specs.Meaning.{Sound}
 use Rattle.book.specs.Sound.{isZero, hasNumber, numbersDiffer, soundWords}
 use Rattle.book.specs.Amounts.{liveAmount, balanceOf}
-use Rattle.book.specs.Due.{carriedBy, anyLeg}
+use Rattle.book.specs.Due.{carriedBy, anyLeg, dueIn}
 use Rattle.sales.specs.Sales.{saleWords, cancelWords}
 use Rattle.sales.specs.History.{Number, Op, sale, cancel, emptyBook, after, cancelledIn, books, bookedBy, owed}
 use Rattle.sales.specs.Balances.{balanceAnswer, totalAnswer}
@@ -30,7 +31,8 @@ use Rattle.sales.specs.declared.Sum.the-variants.{Amount}
 use Rattle.book.proofs.EntryWords.{cancelledEntry}
 use Rattle.book.proofs.SoundBook.{IsSound, sound-is}
 use Rattle.book.proofs.StaysSound.{cancelling}
-use Rattle.book.proofs.AmountsAreDue.{Counts, counts-railway, counts-all}
+use Rattle.book.proofs.AmountsAreDue.{Counts, counts-railway, counts-all, balance-due, total-due}
+use Rattle.book.proofs.BookMeaning.{means-sound}
 use Rattle.sales.proofs.SaleAndCancel.{saleNumberOf, same-sale-number, saleNumbersOf, not-booked, sold-due, books-priced, sale-entries, sale-sound, cancel-after}
 
 -- what the entries of a book come to once the operations have gone over them: those that are live and that no operation cancels
@@ -176,3 +178,12 @@ balance-told ops railway a b = rw (always-sound ops, le-leb 1 railway a, le-leb 
 pub total-told : (ops : List Op) → totalAnswer (after emptyBook ops) ≡ Amount (owed anyLeg [] ops)
 unfolding totalAnswer firstFault
 total-told ops = rw (always-sound ops, balance-is-owed counts-all ops)
+
+-- In any sound book, whatever its history, both are what is due from the questions of its entries that are not cancelled.
+pub balance-of-book : (w : List ℕ) → Sound w → (railway : ℕ) → 1 ≤ railway → railway ≤ 9999 → balanceAnswer w railway ≡ Amount (dueIn (carriedBy railway) (entries w))
+unfolding balanceAnswer firstFault isRailway
+balance-of-book w s railway a b = let f = means-sound w s in rw (f, le-leb 1 railway a, le-leb railway 9999 b, balance-due w f railway)
+
+pub total-of-book : (w : List ℕ) → Sound w → totalAnswer w ≡ Amount (dueIn anyLeg (entries w))
+unfolding totalAnswer firstFault
+total-of-book w s = let f = means-sound w s in rw (f, total-due w f)

@@ -1,4 +1,6 @@
 pub mod AnswersByCase
 pub mod SaleAndCancel
 pub mod BalanceIsOwed
+pub mod Unsound
+pub mod SentFirst
 pub mod SentAgain

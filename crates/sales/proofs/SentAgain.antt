@@ -1,11 +1,12 @@
 -- DEMAND 3, its second half: a sale that is sent again is told its first amounts and changes nothing, and a number used again for another sale is
--- refused; cancelled or not, after any history.
+-- refused; cancelled or not, after any history. A cancellation of it tells its first amounts too.
 -- Assumes nothing.
-use Prim.Native.Nat.{ℕ, _+_, _≤_, _<_}
+use Prim.Native.Nat.{ℕ, _≤_, _<_}
 use mathlib.Core.Path.{_≡_, refl, sym, _∙_, ap, ap₂}
 use mathlib.Core.Bool.{Bool, true, false, cond, _||_, and-false}
 use mathlib.Core.List.{List, [], _∷_, _++_}
 use native.Mathlib.Omega.{arith}
+use lib.Dec.{eqb}
 use lib.ListN.{length, getD, length-append, length-map, List·getD-append}
 use lib.Seq.{getD-at}
 use borrow.Author.Tests.{eq-eqb}
@@ -18,8 +19,8 @@ use Rattle.fares.specs.declared.Question.{Question}
 use Rattle.book.specs.Words.{Entry, noEntry, entries, questionWords, booking}
 use Rattle.book.specs.Sound.{hasNumber}
 use Rattle.book.specs.SameQuestion.{SameQuestion}
-use Rattle.sales.specs.Sales.{isPresent, present, place, saleAnswer, saleWords, cancelWords, isBooked, receipt, noReceipt}
-use Rattle.sales.specs.declared.Outcome.the-variants.{Booked, AlreadyBooked}
+use Rattle.sales.specs.Sales.{isPresent, present, place, saleAnswer, saleWords, cancelAnswer, cancelWords, isBooked, receipt, noReceipt}
+use Rattle.sales.specs.declared.Outcome.the-variants.{Booked, AlreadyBooked, Cancelled, AlreadyCancelled}
 use Rattle.sales.specs.History.{Number, Op, sale, cancel, emptyBook, after, cancelledIn, books, bookedBy}
 use Rattle.sales.specs.Helpers.{againAnswer}
 use Rattle.book.proofs.EntryWords.{cancelledEntry}
@@ -29,7 +30,7 @@ use Rattle.fares.proofs.FareLaws.{asked}
 use Rattle.book.proofs.StaysSound.{cancelling}
 use Rattle.sales.proofs.SaleAndCancel.{saleNumberOf, same-sale-number, saleNumbersOf, books-is, not-booked, sale-entries, sale-sound, cancel-after, books-number, books-priced, priced-in-limits, at-place}
 use Rattle.sales.proofs.BalanceIsOwed.{stays-sound, empty-sound, booked-numbers}
-use Rattle.sales.proofs.AnswersByCase.{present-again, booked-is, again-same, again-other}
+use Rattle.sales.proofs.AnswersByCase.{present-again, present-cancel, booked-is, again-same, again-other}
 
 -- an entry once booked: where it is, and cancelled if an operation cancels its number
 abbrev later : Entry → List Op → Entry
@@ -181,3 +182,14 @@ module _ (first : List Op) (n : Number) (b : List ℕ) (q : Question) (more : Li
     pub nothing-changes : (b′ : List ℕ) (q′ : Question) → saleWords now (n .till) (n .sequence) b′ q′ ≡ now
     unfolding saleWords isBooked
     nothing-changes b′ q′ = rw (found .0, and-false)
+
+    -- A cancellation of it tells the same parts, and whether it was cancelled before.
+    cancelled-by : (c : Bool) → receipt (cond (eqb (cond c (cancelledEntry entry) entry .status) 0) Cancelled AlreadyCancelled) (cond c (cancelledEntry entry) entry .parts)
+        ≡ receipt (cond c AlreadyCancelled Cancelled) (partsOf (recordsOf b) q)
+    cancelled-by true = refl
+    cancelled-by false = refl
+
+    pub cancel-told : cancelAnswer now (n .till) (n .sequence) ≡ receipt (cond (cancelledIn n more) AlreadyCancelled Cancelled) (partsOf (recordsOf b) q)
+    cancel-told =
+        present-cancel now (n .till) (n .sequence) (sound-is now now-sound) (books-number start at-first n b q booked) (found .0)
+        ∙ (ap (λ (x : Entry). receipt (cond (eqb (x .status) 0) Cancelled AlreadyCancelled) (x .parts)) the-entry ∙ cancelled-by (cancelledIn n more))
