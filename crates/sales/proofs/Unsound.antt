@@ -15,9 +15,9 @@ use Rattle.sales.specs.Balances.{balanceAnswer, totalAnswer}
 use Rattle.sales.specs.declared.Sum.the-variants.{Refused}
 use Rattle.sales.proofs.AnswersByCase.{sale-unsound, cancel-unsound}
 
-module _ (w : List ℕ) (no : Sound w → ⊥) where
+module _ (w : List ℕ) (unsound : Sound w → ⊥) where
   not-found : soundWords w ≡ false
-  not-found = refuted (soundWords w) (λ e. no (sound-means w e))
+  not-found = refuted (soundWords w) (λ e. unsound (sound-means w e))
 
   pub unsound-sale : (till sequence : ℕ) (bundle : List ℕ) (q : Question) → saleAnswer w till sequence bundle q ≡ noReceipt (refuse 21 0 0)
   unsound-sale till sequence bundle q = sale-unsound w till sequence bundle q not-found
