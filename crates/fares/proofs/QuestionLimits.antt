@@ -12,6 +12,7 @@ use Rattle.common.specs.Lists.{every}
 use Rattle.common.proofs.Tests.{both-true, in-range}
 use Rattle.common.proofs.Lists.{every-at, every-by, first-length, first-at}
 use Rattle.layout.specs.Company.{isRailway}
+use Rattle.layout.specs.Dates.{isDay}
 use Rattle.layout.proofs.Calendar.{a-day-is-real, real-is-a-day}
 use Rattle.fares.specs.Question.{between, legInLimits, noLeg, legsOf, limitsOf, inLimits}
 use Rattle.fares.specs.Meaning.{LegInLimits, legAt, InLimits}
@@ -59,7 +60,7 @@ module _ (q : Question) where
       (λ k l. let m : k < q .count = omega (arith, count-is) in rw (leg-is k m) (means-leg (legAt q k) (h .legs k m))) in
       rw (
         is-between 1 (q .offer) 99999 (h .offer),
-        h .day,
+        real-is-a-day (q .day) (h .day),
         is-between 1 (q .persons) 99 (h .persons),
         is-between 0 (q .card) 999 (omega arith, h .card),
         is-between 1 (q .count) 8 (h .count),
