@@ -156,11 +156,11 @@ unfolding unread
 one-unread-is co f h = rw (h .split) (one-set co (h .earlier) f (h .later) (rw (h .split) at unread-flags) (h .set) (h .none-earlier))
 
 -- A LEG of an accepted bundle
-conditions-legs : forLegs CO ≡ true
+pub conditions-legs : forLegs CO ≡ true
 unfolding forLegs ofOffers any every tableAt tables
 conditions-legs = refl
 
-card-legs : forLegs AR ≡ true
+pub card-legs : forLegs AR ≡ true
 unfolding forLegs ofOffers any every tableAt tables
 card-legs = refl
 

@@ -20,6 +20,9 @@ use Rattle.fares.specs.Question.{legsOf}
 use Rattle.fares.specs.Legs.{legChecks}
 use Rattle.fares.specs.Fare.{partsOf, priceChecks, fareChecks, noFare, priced, fareOf}
 use Rattle.fares.specs.declared.Question.{Question}
+use Rattle.fares.specs.declared.Quote.{Quote}
+use Rattle.fares.specs.declared.Pricing.{Pricing}
+use Rattle.fares.specs.declared.Pricing.the-variants.{Priced, Refused as NoFare}
 use Rattle.book.specs.Words.{capacity, entries}
 use Rattle.sales.specs.Sales.{noReceipt, receipt, isPresent, present, saleChecks, saleAnswer, cancelChecks, cancelAnswer}
 use Rattle.book.specs.Amounts.{ofRailway, ofAll, balanceOf}
@@ -117,7 +120,7 @@ module _ (s : List ℕ) where
       (append-tells all (eachFrom 0 fieldChecks (recordsOf s)) (endChecks (length (recordsOf s)) (restOf s)) (each-tells all fieldChecks (λ i r. refl) 0 (recordsOf s)) refl)
       (each-tells all (recordChecks (recordsOf s)) (λ i r. refl) 0 (recordsOf s))
 
-  pub verdict-numbers : TellsOf verdictNumbers (checks s)
+  verdict-numbers : TellsOf verdictNumbers (checks s)
   verdict-numbers = verdict-among []
 
   fare-among : (q : Question) (ns : List ℕ) → TellsOf (fareNumbers ++ ns) (fareChecks s q)
@@ -127,10 +130,10 @@ module _ (s : List ℕ) where
       append-tells all (checks s) (priceChecks (recordsOf s) q) (verdict-among (11 ∷ 12 ∷ 13 ∷ 14 ∷ 15 ∷ 16 ∷ ns))
       (append-tells all (eachFrom 0 (legChecks (recordsOf s) q) (legsOf q)) _ (each-tells all (legChecks (recordsOf s) q) (λ i leg. refl) 0 (legsOf q)) refl)
 
-  pub fare-numbers : (q : Question) → TellsOf fareNumbers (fareChecks s q)
+  fare-numbers : (q : Question) → TellsOf fareNumbers (fareChecks s q)
   fare-numbers q = fare-among q []
 
-  pub sale-numbers : (w : List ℕ) (t n : ℕ) (q : Question) → TellsOf saleNumbers (saleChecks w t n s q)
+  sale-numbers : (w : List ℕ) (t n : ℕ) (q : Question) → TellsOf saleNumbers (saleChecks w t n s q)
   unfolding saleChecks every any
   sale-numbers w t n q = new-or-not (isPresent w t n)
     where
@@ -138,20 +141,20 @@ module _ (s : List ℕ) where
       new-or-not true = refl
       new-or-not false = fare-among q (21 ∷ 22 ∷ 23 ∷ 24 ∷ [])
 
-pub cancel-numbers : (w : List ℕ) (t s : ℕ) → TellsOf cancelNumbers (cancelChecks w t s)
+cancel-numbers : (w : List ℕ) (t s : ℕ) → TellsOf cancelNumbers (cancelChecks w t s)
 unfolding cancelChecks every any
 cancel-numbers w t s = refl
 
-pub balance-numbers : (w : List ℕ) (railway : ℕ) → TellsOf balanceNumbers (balanceChecks w railway)
+balance-numbers : (w : List ℕ) (railway : ℕ) → TellsOf balanceNumbers (balanceChecks w railway)
 unfolding every any
 balance-numbers w railway = refl
 
-pub total-numbers : (w : List ℕ) → TellsOf totalNumbers (totalChecks w)
+total-numbers : (w : List ℕ) → TellsOf totalNumbers (totalChecks w)
 unfolding every any
 total-numbers w = refl
 
 -- a refusal tells one of its call's numbers
-pub refused-among : {t : Told} {cs : List Check} {n : ℕ} {vs : List ℕ} (ns : List ℕ) → Follows t cs n vs → TellsOf ns cs
+refused-among : {t : Told} {cs : List Check} {n : ℕ} {vs : List ℕ} (ns : List ℕ) → Follows t cs n vs → TellsOf ns cs
     → (why : Refusal) (us : List ℕ) → t ≡ refuses why us → Among ns (why .number)
 refused-among {cs = cs} ns f e why us h = first-among ns cs e why (f .refused-by why us h .0)
 
@@ -160,6 +163,28 @@ pub told-accepted : (j : Judgement) (n : ℕ) → verdictTells j ≡ answers (n 
 unfolding verdictTells
 told-accepted (Accepted m) n e = let x : m ≡ n = cc in rw x
 told-accepted (Refused why) n e = let z : _≡_ {A = ℕ} 0 1 = cc in absurd (omega arith)
+
+pub told-refused : (j : Judgement) (why : Refusal) (us : List ℕ) → verdictTells j ≡ refuses why us → j ≡ Refused why
+unfolding verdictTells
+told-refused (Accepted m) why us e = let z : _≡_ {A = ℕ} 0 1 = cc in absurd (omega arith)
+told-refused (Refused other) why us e = let x : other ≡ why = cc in rw x
+
+pricing-told : (o : Pricing) (us vs : List ℕ) → pricingTells o us ≡ answers vs → (o ≡ Priced) × (us ≡ vs)
+unfolding pricingTells
+pricing-told Priced us vs e = (refl, cc)
+pricing-told (NoFare why) us vs e = let z : _≡_ {A = ℕ} 0 1 = cc in absurd (omega arith)
+
+pub told-priced : (r : Quote) (fare : ℕ) (parts : List ℕ) → fareTells r ≡ answers (fare ∷ parts) → r ≡ record { outcome = Priced; fare = fare; parts = parts }
+unfolding fareTells
+told-priced r fare parts e =
+    let p = pricing-told (r .outcome) (r .fare ∷ r .parts) (fare ∷ parts) e in
+    let x : r .fare ≡ fare = cc in
+    let y : r .parts ≡ parts = cc in
+    λ j. record { outcome = p .0 j; fare = x j; parts = y j }
+
+pub told-no-fare : (s : List ℕ) (q : Question) (why : Refusal) (us : List ℕ) → fareTells (fareOf s q) ≡ refuses why us → fareOf s q ≡ noFare why
+unfolding fareOf
+told-no-fare s q why us e = rw (means-fault (fareChecks s q) why (fare-follows s q .refused-by why us e .0))
 
 outcome-booked : (o : Outcome) (ps parts : List ℕ) → outcomeTells o ps ≡ answers (booked ∷ 0 ∷ parts) → (o ≡ Booked) × (ps ≡ parts)
 unfolding outcomeTells
@@ -180,3 +205,23 @@ booked-told r e = ap (λ (o : Outcome). outcomeTells o (r .parts)) e
 pub cancelled-told : (r : Receipt) → r .outcome ≡ Cancelled → receiptTells r ≡ answers (cancelled ∷ 1 ∷ r .parts)
 unfolding receiptTells outcomeTells
 cancelled-told r e = ap (λ (o : Outcome). outcomeTells o (r .parts)) e
+
+-- NO CALL TELLS A NUMBER that is not in its table.
+pub the-numbers-of-a-verdict : (bundle : List ℕ) (why : Refusal) (us : List ℕ) → verdictTells (verdictOf bundle) ≡ refuses why us → Among verdictNumbers (why .number)
+the-numbers-of-a-verdict bundle = refused-among verdictNumbers (verdict-follows bundle) (verdict-numbers bundle)
+
+pub the-numbers-of-a-fare : (bundle : List ℕ) (q : Question) (why : Refusal) (us : List ℕ) → fareTells (fareOf bundle q) ≡ refuses why us → Among fareNumbers (why .number)
+the-numbers-of-a-fare bundle q = refused-among fareNumbers (fare-follows bundle q) (fare-numbers bundle q)
+
+pub the-numbers-of-a-sale : (book : List ℕ) (till sequence : ℕ) (bundle : List ℕ) (q : Question) (why : Refusal) (us : List ℕ)
+    → receiptTells (saleAnswer book till sequence bundle q) ≡ refuses why us → Among saleNumbers (why .number)
+the-numbers-of-a-sale book till sequence bundle q = refused-among saleNumbers (sale-follows book till sequence bundle q) (sale-numbers bundle book till sequence q)
+
+pub the-numbers-of-a-cancellation : (book : List ℕ) (till sequence : ℕ) (why : Refusal) (us : List ℕ) → receiptTells (cancelAnswer book till sequence) ≡ refuses why us → Among cancelNumbers (why .number)
+the-numbers-of-a-cancellation book till sequence = refused-among cancelNumbers (cancel-follows book till sequence) (cancel-numbers book till sequence)
+
+pub the-numbers-of-a-balance : (book : List ℕ) (railway : ℕ) (why : Refusal) (us : List ℕ) → sumTells (balanceAnswer book railway) ≡ refuses why us → Among balanceNumbers (why .number)
+the-numbers-of-a-balance book railway = refused-among balanceNumbers (balance-follows book railway) (balance-numbers book railway)
+
+pub the-numbers-of-a-total : (book : List ℕ) (why : Refusal) (us : List ℕ) → sumTells (totalAnswer book) ≡ refuses why us → Among totalNumbers (why .number)
+the-numbers-of-a-total book = refused-among totalNumbers (total-follows book) (total-numbers book)

@@ -1,107 +1,80 @@
--- The headline theorems under readable names. docs/PROMISES.md says which demand each renders.
+-- THE PROMISES, demand by demand, in the words of the railway: what a bundle, a record, a field, a fare, a sale and a book are, with no search and no loop in
+-- them. docs/PROMISES.md reads them out. `Orders` holds each call to its order of checks besides, and `OneAnswer` says of the contracts themselves that no
+-- second answer meets them.
 -- Assumes nothing.
-use Prim.Native.Nat.{ℕ, _+_, _-_, _*_, _≤_, _<_}
+use Prim.Native.Nat.{ℕ, _+_, _≤_, _<_}
 use mathlib.Core.Path.{_≡_, refl, sym, _∙_, ap}
-use mathlib.Core.Bool.{true, false, cond}
-use mathlib.Core.List.{List, [], _∷_, _++_}
-use mathlib.Core.Logic.{_⊎_}
-use lib.Dec.{eqb, ltb}
-use lib.ListN.{length, getD, replicate}
-use Rattle.common.specs.Lists.{every, any, sum, upTo}
+use mathlib.Core.Bool.{Bool, true, false, cond}
+use mathlib.Core.List.{List, [], _∷_, _++_, List·Memᴰ}
+use mathlib.Core.Logic.{_↔_}
+use lib.ListN.{length, replicate}
+use Rattle.common.specs.Lists.{sum, upTo}
 use Rattle.common.specs.Checks.{refuse}
 use Rattle.common.specs.declared.Refusal.{Refusal}
-use Rattle.layout.specs.Layout.{CO, AR, ME, Table, tables, tableAt, tableCount, standFrom}
-use Rattle.layout.specs.Fields.{bytesOf, ofOffers, transferorOf, offerOf, railwayOf}
-use Rattle.layout.specs.declared.fields.Grant.{Grant}
-use Rattle.layout.proofs.Tables.{rows-stand, transferor-stands, offer-stands, railway-stands}
-use Rattle.bundle.specs.Records.{Rec, recordsOf}
-use Rattle.bundle.specs.Verdict.{checks, verdictOf}
-use Rattle.bundle.specs.Meaning.{Good, recordAt}
-use Rattle.bundle.specs.Choice.{forLegs, isOwn, isGeneral, choiceOf}
-use Rattle.bundle.specs.declared.choice.Wanted.{Wanted}
-use Rattle.bundle.specs.declared.Judgement.{Judgement}
-use Rattle.bundle.specs.declared.choice.Choice.the-variants.{At}
-use Rattle.bundle.proofs.Unique.{only-own, only-general, chosen-is-own-or-general}
+use Rattle.common.proofs.Lists.{upto-same}
+use Rattle.layout.specs.Layout.{CO, AR, tableCount, lengthOf}
+use Rattle.layout.specs.Rules.{keepsRules}
+use Rattle.layout.specs.Dates.{isDay}
+use Rattle.layout.specs.Calendar.{LeapYears, Months, RealDay}
+use Rattle.layout.specs.Values.{Field, values, Means, Readings, Railways}
+use Rattle.layout.specs.Figures as layout
+use Rattle.layout.proofs.Calendar.{leap-years, months, a-day-is-real, real-is-a-day}
+use Rattle.layout.proofs.Values.{kept-by-its-values}
+use Rattle.layout.proofs.Readings.{readings, railways}
+use Rattle.layout.proofs.Figures.{layout-figures-hold}
+use Rattle.bundle.specs.Records.{Rec, recordsOf, restOf}
+use Rattle.bundle.specs.Verdict.{verdictOf}
+use Rattle.bundle.specs.Meaning.{recordAt, Good}
+use Rattle.bundle.specs.Faults.{Cut, Fault}
+use Rattle.bundle.specs.Chosen.{IsFor, Uses}
+use Rattle.bundle.specs.Choice.{forLegs}
+use Rattle.bundle.specs.Figures as verdicts
+use Rattle.bundle.proofs.Unique.{only-one}
+use Rattle.bundle.proofs.Chosen.{uses-one}
+use Rattle.bundle.proofs.CutAndJoin.{cut-means, cut-only}
 use Rattle.bundle.proofs.Meaning.{accepted-good, good-accepted}
-use Rattle.fares.specs.Question.{noLeg, legsOf, inLimits}
-use Rattle.fares.specs.Rounding.{unit, IsUp, IsDown, IsNear, IsRounded}
-use Rattle.fares.specs.Reductions.{conditionsGrant, cardGrants, reduceBy, reduceAll}
-use Rattle.fares.specs.Legs.{chosen, bodies, bodyOf, stepsOf, partOf}
-use Rattle.fares.specs.Fare.{partsOf, mostFare, fareChecks, fareOf}
+use Rattle.bundle.proofs.Faults.{refused-fault, fault-refused}
+use Rattle.bundle.proofs.Computed.{verdict-figures-hold}
+use Rattle.fares.specs.Rounding.{IsRounded}
+use Rattle.fares.specs.Legs.{partOf}
+use Rattle.fares.specs.Fare.{partsOf, fareOf}
+use Rattle.fares.specs.Meaning.{IsFare, NoFare}
+use Rattle.fares.specs.Figures as fares
 use Rattle.fares.specs.declared.Leg.{Leg}
 use Rattle.fares.specs.declared.Question.{Question}
-use Rattle.fares.specs.declared.Quote.{Quote}
-use Rattle.fares.proofs.RoundLaws.{up-only, down-only, near-only}
-use Rattle.fares.proofs.StepLaws.{whole-discount}
+use Rattle.fares.specs.declared.Pricing.the-variants.{Priced, Refused}
 use Rattle.fares.proofs.LegLaws.{leg-small}
-use Rattle.fares.proofs.Meaning.{each-part, never-sixteen}
-use Rattle.fares.proofs.Grants.{rounded-as-said, conditions-lawful, card-lawful}
+use Rattle.fares.proofs.LegMeaning.{rounded-only, conditions-legs, card-legs}
+use Rattle.fares.proofs.Meaning.{fare-means, means-fare, no-fare-means, means-no-fare}
+use Rattle.fares.proofs.Computed.{fare-figures-hold}
 use Rattle.book.specs.Words.{entries}
-use Rattle.book.specs.Due.{carriedBy, anyLeg}
+use Rattle.book.specs.Due.{carriedBy, anyLeg, dueIn}
+use Rattle.book.specs.Meaning.{Sound}
 use Rattle.book.specs.SameQuestion.{SameQuestion}
 use Rattle.book.specs.Sound.{soundWords}
-use Rattle.sales.specs.Sales.{isPresent, present, saleChecks, saleAnswer, saleWords, cancelChecks, cancelAnswer, cancelWords}
-use Rattle.book.specs.Amounts.{ofRailway, ofAll, balanceOf}
-use Rattle.sales.specs.Balances.{balanceChecks, totalChecks, balanceAnswer, totalAnswer}
-use Rattle.sales.specs.History.{Number, Op, sale, emptyBook, after, cancelledIn, bookedBy, owed}
-use Rattle.sales.specs.declared.Receipt.{Receipt}
-use Rattle.sales.specs.declared.Sum.{Sum}
-use Rattle.sales.proofs.BalanceIsOwed.{always-sound, balance-told, total-told}
+use Rattle.book.proofs.BookMeaning.{sound-means, means-sound}
+use Rattle.book.proofs.AmountsAreDue.{balance-due, total-due}
 use Rattle.book.proofs.TotalIsSum.{total-is-sum}
-use Rattle.sales.proofs.SentAgain.{told-first, refused-other, nothing-changes}
+use Rattle.sales.specs.Sales.{saleAnswer, saleWords, cancelAnswer, cancelWords}
+use Rattle.sales.specs.Balances.{balanceAnswer, totalAnswer}
+use Rattle.sales.specs.History.{Number, Op, sale, emptyBook, after, cancelledIn, bookedBy, owed, isIn, isNumber}
+use Rattle.sales.proofs.BalanceIsOwed.{always-sound, balance-told, total-told, balance-of-book, total-of-book, no-railway}
+use Rattle.sales.specs.declared.Outcome.the-variants.{Cancelled, AlreadyCancelled}
+use Rattle.sales.proofs.Unsound.{unsound-sale, unsound-cancel, unsound-balance, unsound-total}
+use Rattle.sales.proofs.SentFirst.{sale-without-number, cancel-without-number, cancel-of-unknown, sale-when-full, sale-booked, sale-refused}
+use Rattle.sales.proofs.SentAgain.{told-first, refused-other, nothing-changes, cancel-told}
 use Rattle.sales.proofs.AnswersByCase.{booked-parts, not-booked-stays, not-cancelled-stays}
-use Rattle.offers.specs.Answers.{answers, refuses, verdictTells, fareTells, booked, alreadyBooked, cancelled, alreadyCancelled, outcomeTells, receiptTells, sumTells}
-use Rattle.offers.specs.Answers.{Follows, Among, verdictNumbers, fareNumbers, saleNumbers, cancelNumbers, balanceNumbers, totalNumbers}
-use Rattle.offers.proofs.Orders.{verdict-follows, fare-follows, sale-follows, cancel-follows, balance-follows, total-follows}
-use Rattle.offers.proofs.Orders.{refused-among, verdict-numbers, fare-numbers, sale-numbers, cancel-numbers, balance-numbers, total-numbers}
-use Rattle.offers.proofs.Orders.{told-accepted, told-booked, booked-told, cancelled-told}
+use Rattle.offers.specs.Answers.{answers, refuses, verdictTells, pricingTells, fareTells, booked, alreadyBooked, cancelled, alreadyCancelled, outcomeTells, receiptTells, sumTells}
+use Rattle.offers.proofs.Orders.{told-accepted, told-refused, told-priced, told-no-fare, told-booked, booked-told, cancelled-told}
 
--- DEMAND 1. Each call follows its order of checks: it is refused by the first that fails, with every value zero, and by no other; and it is answered
--- exactly where none fails, with these values.
-pub a-verdict-follows-its-checks : (bundle : List ℕ) → Follows (verdictTells (verdictOf bundle)) (checks bundle) 1 (length (recordsOf bundle) ∷ [])
-a-verdict-follows-its-checks = verdict-follows
+-- DEMAND 2, a bundle. Its records are the whole ones that stand one after the other from its start, and there is one way to cut it so.
+pub the-records-of-a-bundle : (bundle : List ℕ) → Cut bundle (recordsOf bundle) (restOf bundle)
+the-records-of-a-bundle = cut-means
 
-pub a-fare-follows-its-checks : (bundle : List ℕ) (q : Question) → let parts = partsOf (recordsOf bundle) q in
-    Follows (fareTells (fareOf bundle q)) (fareChecks bundle q) 9 (sum parts ∷ parts)
-a-fare-follows-its-checks = fare-follows
+pub there-is-no-other-cut : (bundle : List ℕ) (R : List Rec) (rest : List ℕ) → Cut bundle R rest → (recordsOf bundle ≡ R) × (restOf bundle ≡ rest)
+there-is-no-other-cut = cut-only
 
-pub a-sale-follows-its-checks : (book : List ℕ) (till sequence : ℕ) (bundle : List ℕ) (q : Question) → let e = present book till sequence in
-    Follows (receiptTells (saleAnswer book till sequence bundle q)) (saleChecks book till sequence bundle q) 10
-    (cond (isPresent book till sequence) (alreadyBooked ∷ e .status ∷ e .parts) (booked ∷ 0 ∷ partsOf (recordsOf bundle) q))
-a-sale-follows-its-checks = sale-follows
-
-pub a-cancellation-follows-its-checks : (book : List ℕ) (till sequence : ℕ) → let e = present book till sequence in
-    Follows (receiptTells (cancelAnswer book till sequence)) (cancelChecks book till sequence) 10 (cond (eqb (e .status) 0) cancelled alreadyCancelled ∷ 1 ∷ e .parts)
-a-cancellation-follows-its-checks = cancel-follows
-
-pub a-balance-follows-its-checks : (book : List ℕ) (railway : ℕ)
-    → Follows (sumTells (balanceAnswer book railway)) (balanceChecks book railway) 1 (balanceOf (ofRailway railway) (entries book) ∷ [])
-a-balance-follows-its-checks = balance-follows
-
-pub a-total-follows-its-checks : (book : List ℕ) → Follows (sumTells (totalAnswer book)) (totalChecks book) 1 (balanceOf ofAll (entries book) ∷ [])
-a-total-follows-its-checks = total-follows
-
--- No call tells a number that is not in its table.
-pub the-numbers-of-a-verdict : (bundle : List ℕ) (why : Refusal) (us : List ℕ) → verdictTells (verdictOf bundle) ≡ refuses why us → Among verdictNumbers (why .number)
-the-numbers-of-a-verdict bundle = refused-among verdictNumbers (verdict-follows bundle) (verdict-numbers bundle)
-
-pub the-numbers-of-a-fare : (bundle : List ℕ) (q : Question) (why : Refusal) (us : List ℕ) → fareTells (fareOf bundle q) ≡ refuses why us → Among fareNumbers (why .number)
-the-numbers-of-a-fare bundle q = refused-among fareNumbers (fare-follows bundle q) (fare-numbers bundle q)
-
-pub the-numbers-of-a-sale : (book : List ℕ) (till sequence : ℕ) (bundle : List ℕ) (q : Question) (why : Refusal) (us : List ℕ)
-    → receiptTells (saleAnswer book till sequence bundle q) ≡ refuses why us → Among saleNumbers (why .number)
-the-numbers-of-a-sale book till sequence bundle q = refused-among saleNumbers (sale-follows book till sequence bundle q) (sale-numbers bundle book till sequence q)
-
-pub the-numbers-of-a-cancellation : (book : List ℕ) (till sequence : ℕ) (why : Refusal) (us : List ℕ) → receiptTells (cancelAnswer book till sequence) ≡ refuses why us → Among cancelNumbers (why .number)
-the-numbers-of-a-cancellation book till sequence = refused-among cancelNumbers (cancel-follows book till sequence) (cancel-numbers book till sequence)
-
-pub the-numbers-of-a-balance : (book : List ℕ) (railway : ℕ) (why : Refusal) (us : List ℕ) → sumTells (balanceAnswer book railway) ≡ refuses why us → Among balanceNumbers (why .number)
-the-numbers-of-a-balance book railway = refused-among balanceNumbers (balance-follows book railway) (balance-numbers book railway)
-
-pub the-numbers-of-a-total : (book : List ℕ) (why : Refusal) (us : List ℕ) → sumTells (totalAnswer book) ≡ refuses why us → Among totalNumbers (why .number)
-the-numbers-of-a-total book = refused-among totalNumbers (total-follows book) (total-numbers book)
-
--- DEMAND 2. A bundle is accepted with n only if it is n records that keep every rule, and if it is.
+-- It is accepted with n only if it is n records that keep every rule, and if it is;
 pub accepted-keeps-the-rules : (bundle : List ℕ) (n : ℕ) → verdictTells (verdictOf bundle) ≡ answers (n ∷ []) → Good bundle (recordsOf bundle) × (length (recordsOf bundle) ≡ n)
 accepted-keeps-the-rules bundle n e = accepted-good bundle n (told-accepted (verdictOf bundle) n e)
 
@@ -109,120 +82,207 @@ pub keeping-the-rules-is-accepted : (bundle : List ℕ) (R : List Rec) → Good 
 unfolding verdictTells
 keeping-the-rules-is-accepted bundle R g = rw (good-accepted bundle R g)
 
--- The rows of each table stand one behind the other from position 1 to its length. In every table the transferor, and in every table of offers the
--- offer and the railway, stand where CO has them.
-pub the-rows-of-each-table-stand : every (λ (b : Table). standFrom 1 (b .rows)) tables ≡ true
-the-rows-of-each-table-stand = rows-stand
+-- it is refused only if the record of that place breaks that rule and none before it breaks any, and if it does.
+pub a-refusal-names-the-first-fault : (bundle : List ℕ) (why : Refusal) (us : List ℕ) → verdictTells (verdictOf bundle) ≡ refuses why us
+    → Fault bundle (recordsOf bundle) (restOf bundle) (why .number) (why .place) (why .detail)
+a-refusal-names-the-first-fault bundle why us e = refused-fault bundle why (told-refused (verdictOf bundle) why us e)
 
-pub the-transferor-stands-alike : (t : ℕ) (body : List ℕ) → t < tableCount → bytesOf t 1 body ≡ transferorOf body
-the-transferor-stands-alike = transferor-stands
+pub the-first-fault-is-refused : (bundle : List ℕ) (R : List Rec) (rest : List ℕ) → Cut bundle R rest → (number place detail : ℕ)
+    → Fault bundle R rest number place detail → verdictTells (verdictOf bundle) ≡ refuses (refuse number place detail) (0 ∷ [])
+unfolding verdictTells
+the-first-fault-is-refused bundle R rest c n p d f = rw (fault-refused bundle R rest c n p d f)
 
-pub the-offer-stands-alike : (t : ℕ) → ofOffers t ≡ true → (body : List ℕ) → bytesOf t 2 body ≡ offerOf body
-the-offer-stands-alike = offer-stands
+-- A RECORD keeps its rules exactly if each of its fields says what it may. What is read off it is what its bytes say.
+pub a-record-keeps-its-rules-by-its-values : (t : ℕ) (body : List ℕ) → t < tableCount → length body ≡ lengthOf t
+    → (keepsRules t body ≡ true) ↔ ((p : Field) → List·Memᴰ p values → p .table ≡ t → Means t (p .field) body (p .value))
+a-record-keeps-its-rules-by-its-values = kept-by-its-values
 
-pub the-railway-stands-alike : (t : ℕ) → ofOffers t ≡ true → (body : List ℕ) → bytesOf t 3 body ≡ railwayOf body
-the-railway-stands-alike = railway-stands
+pub what-is-read-off-a-record : (body : List ℕ) → Readings body
+what-is-read-off-a-record = readings
 
--- No second answer meets the contract of `verdict`.
-pub one-verdict : (bundle : List ℕ) (a b : Judgement) → a ≡ verdictOf bundle → b ≡ verdictOf bundle → a ≡ b
-one-verdict bundle a b e f = e ∙ sym f
+pub the-railways : Railways
+the-railways = railways
 
--- In a bundle that keeps the rules a leg's record is the only one of its key, for its railway or for all railways; and the one for all is
--- taken only where there is none of the railway's own.
-pub only-one-record-of-a-railway : (bundle : List ℕ) (R : List Rec) → Good bundle R → (w : Wanted) → forLegs (w .table) ≡ true → (i j : ℕ) → i < length R → j < length R
-    → isOwn w (recordAt R i) ≡ true → isOwn w (recordAt R j) ≡ true → i ≡ j
-only-one-record-of-a-railway = only-own
+-- A DAY is a real one of the Gregorian calendar.
+pub the-leap-years : LeapYears
+the-leap-years = leap-years
 
-pub only-one-record-for-all-railways : (bundle : List ℕ) (R : List Rec) → Good bundle R → (w : Wanted) → forLegs (w .table) ≡ true → (i j : ℕ) → i < length R → j < length R
-    → isGeneral w (recordAt R i) ≡ true → isGeneral w (recordAt R j) ≡ true → i ≡ j
-only-one-record-for-all-railways = only-general
+pub the-months : Months
+the-months = months
 
--- Such tables are CO and AR, and ME.
-pub the-tables-of-a-leg : (forLegs CO ≡ true) × (forLegs AR ≡ true) × (forLegs ME ≡ true)
-unfolding forLegs ofOffers any every tableAt tables
-the-tables-of-a-leg = (refl, refl, refl)
+pub a-day-is-a-real-one : (d : ℕ) → (isDay d ≡ true) ↔ RealDay d
+a-day-is-a-real-one d = (a-day-is-real d, real-is-a-day d)
 
-pub the-record-chosen : (R : List Rec) (w : Wanted) (i : ℕ) → choiceOf R w ≡ At i
-    → (isOwn w (recordAt R i) ≡ true) ⊎ ((isGeneral w (recordAt R i) ≡ true) × ((k : ℕ) → k < length R → isOwn w (recordAt R k) ≡ false))
-the-record-chosen = chosen-is-own-or-general
+-- In a bundle that keeps the rules a table of CO, AR or ME has one record at most for an offer, a railway or 0000, and a code; so a leg uses one at most.
+pub there-is-one-record-for-a-leg : (bundle : List ℕ) (R : List Rec) → Good bundle R → (t : ℕ) → forLegs t ≡ true → (offer code railway i j : ℕ) → i < length R → j < length R
+    → IsFor t offer code railway (recordAt R i) → IsFor t offer code railway (recordAt R j) → i ≡ j
+there-is-one-record-for-a-leg = only-one
 
--- Each part is the steps of the records chosen, each taken exactly and rounded once, times the persons.
-pub a-part-is-its-steps : (R : List Rec) (q : Question) (k : ℕ) → k < q .count → let leg = getD (legsOf q) k noLeg in let c = chosen R q leg in
-    getD (partsOf R q) k 0 ≡ reduceAll (leg .fare) (stepsOf (bodyOf R (c .conditions)) (bodies R (c .card))) * q .persons
-a-part-is-its-steps = each-part
+pub a-leg-uses-one-record : (bundle : List ℕ) (R : List Rec) → Good bundle R → (t : ℕ) → forLegs t ≡ true → (offer code railway i j : ℕ)
+    → Uses R t offer code railway i → Uses R t offer code railway j → i ≡ j
+a-leg-uses-one-record = uses-one
 
--- In a bundle that keeps the rules each step is rounded as its record says: the CO's, and the card's.
-pub the-conditions-round-as-their-record-says : (bundle : List ℕ) (R : List Rec) → Good bundle R → (i : ℕ) → i < length R → recordAt R i .table ≡ CO → (amount : ℕ)
-    → let g = conditionsGrant (recordAt R i .body) in
-    (g .discount ≤ unit) × IsRounded (g .mode) (amount * (unit - g .discount)) (g .factor) (reduceBy amount g)
-the-conditions-round-as-their-record-says bundle R good i l e amount =
-    let g = conditions-lawful (recordAt R i) (good .fields i l) e in
-    (g .at-most-whole, rounded-as-said _ g amount)
+pub such-are-the-conditions-and-the-cards : (forLegs CO ≡ true) × (forLegs AR ≡ true)
+such-are-the-conditions-and-the-cards = (conditions-legs, card-legs)
 
-pub a-card-rounds-as-its-record-says : (bundle : List ℕ) (R : List Rec) → Good bundle R → (i : ℕ) → i < length R → recordAt R i .table ≡ AR → (amount : ℕ)
-    → let g = cardGrants (recordAt R i .body) in
-    (g .discount ≤ unit) × IsRounded (g .mode) (amount * (unit - g .discount)) (g .factor) (reduceBy amount g)
-a-card-rounds-as-its-record-says bundle R good i l e amount =
-    let g = card-lawful (recordAt R i) (good .fields i l) e in
-    (g .at-most-whole, rounded-as-said _ g amount)
+-- DEMAND 2, a fare. It is answered only with what it means: for each leg the CO that it uses, the plain fare less its discount, rounded as that record says, and
+-- if a card counts the same by its AR; times the persons; and the sum. And it is answered if it means that.
+pub a-fare-is-what-the-records-say : (bundle : List ℕ) (q : Question) (fare : ℕ) (parts : List ℕ) → fareTells (fareOf bundle q) ≡ answers (fare ∷ parts)
+    → IsFare bundle (recordsOf bundle) q fare parts
+a-fare-is-what-the-records-say bundle q fare parts e = fare-means bundle q fare parts (told-priced (fareOf bundle q) fare parts e)
 
--- No other amount is the least multiple not below, the greatest not above, or the nearest with halves up.
-pub only-one-is-up : {n f r s : ℕ} → IsUp n f r → IsUp n f s → r ≡ s
-only-one-is-up = up-only
+pub what-the-records-say-is-the-fare : (bundle : List ℕ) (R : List Rec) (q : Question) (fare : ℕ) (parts : List ℕ) → IsFare bundle R q fare parts
+    → fareTells (fareOf bundle q) ≡ answers (fare ∷ parts)
+unfolding fareTells pricingTells
+what-the-records-say-is-the-fare bundle R q fare parts f = rw (means-fare bundle R q fare parts f)
 
-pub only-one-is-down : {n f r s : ℕ} → IsDown n f r → IsDown n f s → r ≡ s
-only-one-is-down = down-only
+-- It is refused only for a fault of the bundle, a question outside its limits (11), or the first leg that has no CO (12), none in force (13), other persons (14)
+-- or a condition unread (15); and if that is so.
+pub a-refused-fare-says-why : (bundle : List ℕ) (q : Question) (why : Refusal) (us : List ℕ) → fareTells (fareOf bundle q) ≡ refuses why us
+    → NoFare bundle (recordsOf bundle) (restOf bundle) q (why .number) (why .place) (why .detail)
+a-refused-fare-says-why bundle q why us e = no-fare-means bundle q why (told-no-fare bundle q why us e)
 
-pub only-one-is-nearest : {n f r s : ℕ} → IsNear n f r → IsNear n f s → r ≡ s
-only-one-is-nearest = near-only
+pub what-says-why-refuses-the-fare : (bundle : List ℕ) (R : List Rec) (rest : List ℕ) → Cut bundle R rest → (q : Question) (number place detail : ℕ)
+    → NoFare bundle R rest q number place detail → fareTells (fareOf bundle q) ≡ refuses (refuse number place detail) (replicate 9 0)
+unfolding fareTells pricingTells
+what-says-why-refuses-the-fare bundle R rest c q n p d f = rw (means-no-fare bundle R rest c q n p d f)
 
--- A discount of 100,000 leaves nothing, whatever the amount and the rounding.
-pub a-whole-discount-leaves-nothing : (a : ℕ) (g : Grant) → g .discount ≡ unit → reduceBy a g ≡ 0
-a-whole-discount-leaves-nothing = whole-discount
+-- Of two amounts rounded from one exact amount as one record says, none is another; and a part is at most 99,197,505 cents.
+pub rounding-has-one-outcome : {mode n f r s : ℕ} → IsRounded mode n f r → IsRounded mode n f s → r ≡ s
+rounding-has-one-outcome = rounded-only
 
--- A part is at most 99,197,505 cents, so that number 16 is never met.
 pub a-part-is-bounded : (R : List Rec) (q : Question) (leg : Leg) → leg .fare ≤ 999999 → q .persons ≤ 99 → partOf R q leg ≤ 99197505
 a-part-is-bounded = leg-small
 
-pub sixteen-is-never-met : (R : List Rec) (q : Question) → inLimits q ≡ true → ltb mostFare (sum (partsOf R q)) ≡ false
-sixteen-is-never-met = never-sixteen
+-- THE FIGURES: of the layout and the calendar, of verdicts, and of fares.
+pub the-figures-of-the-layout-hold : (x : layout.Figure) → List·Memᴰ x layout.figures → layout.Says x
+the-figures-of-the-layout-hold = layout-figures-hold
 
--- No second answer meets the contract of `fare`.
-pub one-fare : (bundle : List ℕ) (q : Question) (a b : Quote) → a ≡ fareOf bundle q → b ≡ fareOf bundle q → a ≡ b
-one-fare bundle q a b e f = e ∙ sym f
+pub the-figures-of-verdicts-hold : (x : verdicts.Figure) → List·Memᴰ x verdicts.figures → verdicts.Says x
+the-figures-of-verdicts-hold = verdict-figures-hold
+
+pub the-figures-of-fares-hold : (x : fares.Figure) → List·Memᴰ x fares.figures → fares.Says x
+the-figures-of-fares-hold = fare-figures-hold
+
+-- DEMAND 1, a book. It is sound exactly if each of its values is as it should be; and one that is not is refused by every call, with 21.
+pub a-sound-book : (book : List ℕ) → (soundWords book ≡ true) ↔ Sound book
+a-sound-book book = (sound-means book, means-sound book)
+
+module _ (book : List ℕ) (unsound : Sound book → ⊥) where
+  pub an-unsound-book-sells-nothing : (till sequence : ℕ) (bundle : List ℕ) (q : Question)
+      → receiptTells (saleAnswer book till sequence bundle q) ≡ refuses (refuse 21 0 0) (replicate 10 0)
+  unfolding receiptTells outcomeTells
+  an-unsound-book-sells-nothing till sequence bundle q = rw (unsound-sale book unsound till sequence bundle q)
+
+  pub an-unsound-book-cancels-nothing : (till sequence : ℕ) → receiptTells (cancelAnswer book till sequence) ≡ refuses (refuse 21 0 0) (replicate 10 0)
+  unfolding receiptTells outcomeTells
+  an-unsound-book-cancels-nothing till sequence = rw (unsound-cancel book unsound till sequence)
+
+  pub an-unsound-book-has-no-balance : (railway : ℕ) → sumTells (balanceAnswer book railway) ≡ refuses (refuse 21 0 0) (0 ∷ [])
+  unfolding sumTells
+  an-unsound-book-has-no-balance railway = rw (unsound-balance book unsound railway)
+
+  pub an-unsound-book-has-no-total : sumTells (totalAnswer book) ≡ refuses (refuse 21 0 0) (0 ∷ [])
+  unfolding sumTells
+  an-unsound-book-has-no-total = rw (unsound-total book unsound)
+
+-- Only a newly booked sale and a first cancellation change a book, whatever is in it.
+pub only-a-booked-sale-changes : (book : List ℕ) (till sequence : ℕ) (bundle : List ℕ) (q : Question)
+    → ((parts : List ℕ) → receiptTells (saleAnswer book till sequence bundle q) ≡ answers (booked ∷ 0 ∷ parts) → ⊥) → saleWords book till sequence bundle q ≡ book
+only-a-booked-sale-changes book till sequence bundle q n = not-booked-stays book till sequence bundle q (λ e. n _ (booked-told (saleAnswer book till sequence bundle q) e))
+
+pub only-a-first-cancellation-changes : (book : List ℕ) (till sequence : ℕ)
+    → ((parts : List ℕ) → receiptTells (cancelAnswer book till sequence) ≡ answers (cancelled ∷ 1 ∷ parts) → ⊥) → cancelWords book till sequence ≡ book
+only-a-first-cancellation-changes book till sequence n = not-cancelled-stays book till sequence (λ e. n _ (cancelled-told (cancelAnswer book till sequence) e))
+
+-- In a sound book a balance is what its sales not cancelled owe the railway, leg by leg, and the total what they owe in all; only a railway 1 to 9999 has one.
+module _ (book : List ℕ) (sound : Sound book) where
+  pub a-balance-of-a-sound-book : (railway : ℕ) → 1 ≤ railway → railway ≤ 9999
+      → sumTells (balanceAnswer book railway) ≡ answers (dueIn (carriedBy railway) (entries book) ∷ [])
+  unfolding sumTells
+  a-balance-of-a-sound-book railway a b = rw (balance-of-book book sound railway a b)
+
+  pub the-total-of-a-sound-book : sumTells (totalAnswer book) ≡ answers (dueIn anyLeg (entries book) ∷ [])
+  unfolding sumTells
+  the-total-of-a-sound-book = rw (total-of-book book sound)
+
+  pub no-railway-no-balance : (railway : ℕ) → ((1 ≤ railway) × (railway ≤ 9999) → ⊥) → sumTells (balanceAnswer book railway) ≡ refuses (refuse 11 0 0) (0 ∷ [])
+  unfolding sumTells
+  no-railway-no-balance railway n = rw (no-railway book sound railway n)
+
+  -- The total is the sum of the balances of railways 1 to 9999.
+  pub the-total-is-the-sum-of-the-balances : dueIn anyLeg (entries book) ≡ sum (upTo (λ r. dueIn (carriedBy (r + 1)) (entries book)) 9999)
+  the-total-is-the-sum-of-the-balances =
+      let s = means-sound book sound in
+      sym (total-due book s) ∙ (total-is-sum book s ∙ ap sum (upto-same _ _ 9999 (λ r l. balance-due book s (r + 1))))
 
 -- DEMAND 3. After any sales and cancellations from the empty book, each sale with any bundle: the book is sound,
-pub the-book-stays-sound : (ops : List Op) → soundWords (after emptyBook ops) ≡ true
-the-book-stays-sound = always-sound
+module _ (ops : List Op) where
+  pub the-book-stays-sound : Sound (after emptyBook ops)
+  the-book-stays-sound = sound-means (after emptyBook ops) (always-sound ops)
 
--- every railway is owed what the history alone tells, and so are all together,
-pub a-balance-is-what-the-history-tells : (ops : List Op) (railway : ℕ) → 1 ≤ railway → railway ≤ 9999
-    → sumTells (balanceAnswer (after emptyBook ops) railway) ≡ answers (owed (carriedBy railway) [] ops ∷ [])
-unfolding sumTells
-a-balance-is-what-the-history-tells ops railway a b = rw (balance-told ops railway a b)
+  -- every railway is owed what the history alone tells: over the different sales booked and not cancelled afterwards, the parts of its legs, as priced at the first
+  -- booking; and so are all together.
+  pub a-balance-is-what-the-history-tells : (railway : ℕ) → 1 ≤ railway → railway ≤ 9999
+      → sumTells (balanceAnswer (after emptyBook ops) railway) ≡ answers (owed (carriedBy railway) [] ops ∷ [])
+  unfolding sumTells
+  a-balance-is-what-the-history-tells railway a b = rw (balance-told ops railway a b)
 
-pub the-total-is-what-the-history-tells : (ops : List Op) → sumTells (totalAnswer (after emptyBook ops)) ≡ answers (owed anyLeg [] ops ∷ [])
-unfolding sumTells
-the-total-is-what-the-history-tells ops = rw (total-told ops)
+  pub the-total-is-what-the-history-tells : sumTells (totalAnswer (after emptyBook ops)) ≡ answers (owed anyLeg [] ops ∷ [])
+  unfolding sumTells
+  the-total-is-what-the-history-tells = rw (total-told ops)
 
--- and in every sound book the total is the sum of the balances of railways 1 to 9999.
-pub the-total-is-the-sum-of-the-balances : (book : List ℕ) → soundWords book ≡ true
-    → balanceOf ofAll (entries book) ≡ sum (upTo (λ r. balanceOf (ofRailway (r + 1)) (entries book)) 9999)
-the-total-is-the-sum-of-the-balances = total-is-sum
+  -- A number outside its limits is refused with 22;
+  module _ (n : Number) where
+    pub a-sale-without-a-number-is-refused : isNumber n ≡ false → (bundle : List ℕ) (q : Question)
+        → receiptTells (saleAnswer (after emptyBook ops) (n .till) (n .sequence) bundle q) ≡ refuses (refuse 22 0 0) (replicate 10 0)
+    unfolding receiptTells outcomeTells
+    a-sale-without-a-number-is-refused e bundle q = rw (sale-without-number ops n e bundle q)
+
+    pub a-cancellation-without-a-number-is-refused : isNumber n ≡ false
+        → receiptTells (cancelAnswer (after emptyBook ops) (n .till) (n .sequence)) ≡ refuses (refuse 22 0 0) (replicate 10 0)
+    unfolding receiptTells outcomeTells
+    a-cancellation-without-a-number-is-refused e = rw (cancel-without-number ops n e)
+
+    -- one that was never booked is unknown to a cancellation (25); its sale is refused after 256 bookings (24), and before is booked with the parts of its fare, or
+    -- refused as that is.
+    module _ (number : isNumber n ≡ true) (new : isIn n (bookedBy [] ops) ≡ false) where
+      pub an-unknown-sale-is-not-cancelled : receiptTells (cancelAnswer (after emptyBook ops) (n .till) (n .sequence)) ≡ refuses (refuse 25 0 0) (replicate 10 0)
+      unfolding receiptTells outcomeTells
+      an-unknown-sale-is-not-cancelled = rw (cancel-of-unknown ops n number new)
+
+      module _ (bundle : List ℕ) (q : Question) where
+        pub a-full-book-takes-no-sale : 256 ≤ length (bookedBy [] ops)
+            → receiptTells (saleAnswer (after emptyBook ops) (n .till) (n .sequence) bundle q) ≡ refuses (refuse 24 0 0) (replicate 10 0)
+        unfolding receiptTells outcomeTells
+        a-full-book-takes-no-sale f = rw (sale-when-full ops n number new bundle q f)
+
+        module _ (room : length (bookedBy [] ops) < 256) where
+          pub a-sale-is-booked-with-its-fare : fareOf bundle q .outcome ≡ Priced
+              → receiptTells (saleAnswer (after emptyBook ops) (n .till) (n .sequence) bundle q) ≡ answers (booked ∷ 0 ∷ fareOf bundle q .parts)
+          unfolding receiptTells outcomeTells
+          a-sale-is-booked-with-its-fare e = rw (sale-booked ops n number new bundle q room e)
+
+          pub a-sale-is-refused-as-its-fare : (why : Refusal) → fareOf bundle q .outcome ≡ Refused why
+              → receiptTells (saleAnswer (after emptyBook ops) (n .till) (n .sequence) bundle q) ≡ refuses why (replicate 10 0)
+          unfolding receiptTells outcomeTells
+          a-sale-is-refused-as-its-fare why e = rw (sale-refused ops n number new bundle q room why e)
 
 -- A sale booked in any history and sent again after any other, with any bundle: the same question is told the very parts that it was told first, and
--- whether it is cancelled; another is refused with the entry's place; and neither changes a word.
+-- whether it is cancelled; another is refused with 23 and its place among the sales booked; and neither changes a word. Its cancellation tells the same parts.
 module _ (first : List Op) (n : Number) (bundle : List ℕ) (q : Question) (more : List Op) (parts : List ℕ)
     (sold : receiptTells (saleAnswer (after emptyBook first) (n .till) (n .sequence) bundle q) ≡ answers (booked ∷ 0 ∷ parts)) where
   abbrev now : List ℕ
   now = after emptyBook (first ++ (sale n bundle q ∷ more))
 
+  first-parts : partsOf (recordsOf bundle) q ≡ parts
+  first-parts = let r = told-booked _ parts sold in sym (booked-parts _ _ _ bundle q (r .0)) ∙ r .1
+
   pub sent-again-is-told-its-first-amounts : (bundle′ : List ℕ) (q′ : Question) → SameQuestion q q′
       → receiptTells (saleAnswer now (n .till) (n .sequence) bundle′ q′) ≡ answers (alreadyBooked ∷ cond (cancelledIn n more) 1 0 ∷ parts)
   unfolding receiptTells outcomeTells
   sent-again-is-told-its-first-amounts bundle′ q′ e =
-      let r = told-booked _ parts sold in
-      rw (told-first first n bundle q more (r .0) bundle′ q′ e) (ap (λ x. answers (alreadyBooked ∷ cond (cancelledIn n more) 1 0 ∷ x)) (sym (booked-parts _ _ _ bundle q (r .0)) ∙ r .1))
+      rw (told-first first n bundle q more (told-booked _ parts sold .0) bundle′ q′ e) (ap (λ x. answers (alreadyBooked ∷ cond (cancelledIn n more) 1 0 ∷ x)) first-parts)
 
   pub another-question-is-refused : (bundle′ : List ℕ) (q′ : Question) → (SameQuestion q q′ → ⊥)
       → receiptTells (saleAnswer now (n .till) (n .sequence) bundle′ q′) ≡ refuses (refuse 23 (length (bookedBy [] first)) 0) (replicate 10 0)
@@ -232,26 +292,11 @@ module _ (first : List Op) (n : Number) (bundle : List ℕ) (q : Question) (more
   pub sent-again-changes-nothing : (bundle′ : List ℕ) (q′ : Question) → saleWords now (n .till) (n .sequence) bundle′ q′ ≡ now
   sent-again-changes-nothing = nothing-changes first n bundle q more (told-booked _ parts sold .0)
 
--- Only a newly booked sale and a first cancellation change the book.
-pub only-a-booked-sale-changes : (book : List ℕ) (till sequence : ℕ) (bundle : List ℕ) (q : Question)
-    → ((parts : List ℕ) → receiptTells (saleAnswer book till sequence bundle q) ≡ answers (booked ∷ 0 ∷ parts) → ⊥) → saleWords book till sequence bundle q ≡ book
-only-a-booked-sale-changes book till sequence bundle q n = not-booked-stays book till sequence bundle q (λ e. n _ (booked-told (saleAnswer book till sequence bundle q) e))
-
-pub only-a-first-cancellation-changes : (book : List ℕ) (till sequence : ℕ)
-    → ((parts : List ℕ) → receiptTells (cancelAnswer book till sequence) ≡ answers (cancelled ∷ 1 ∷ parts) → ⊥) → cancelWords book till sequence ≡ book
-only-a-first-cancellation-changes book till sequence n = not-cancelled-stays book till sequence (λ e. n _ (cancelled-told (cancelAnswer book till sequence) e))
-
--- No second answer meets the contracts of `sale`, `cancel`, `balance` and `total`, and no second book those of `sale` and `cancel`.
-pub one-sale : (book : List ℕ) (till sequence : ℕ) (bundle : List ℕ) (q : Question) (x y : Receipt) (v z : List ℕ)
-    → x ≡ saleAnswer book till sequence bundle q → v ≡ saleWords book till sequence bundle q → y ≡ saleAnswer book till sequence bundle q → z ≡ saleWords book till sequence bundle q → (x ≡ y) × (v ≡ z)
-one-sale book till sequence bundle q x y v z e f g h = (e ∙ sym g, f ∙ sym h)
-
-pub one-cancel : (book : List ℕ) (till sequence : ℕ) (x y : Receipt) (v z : List ℕ)
-    → x ≡ cancelAnswer book till sequence → v ≡ cancelWords book till sequence → y ≡ cancelAnswer book till sequence → z ≡ cancelWords book till sequence → (x ≡ y) × (v ≡ z)
-one-cancel book till sequence x y v z e f g h = (e ∙ sym g, f ∙ sym h)
-
-pub one-balance : (book : List ℕ) (railway : ℕ) (x y : Sum) → x ≡ balanceAnswer book railway → y ≡ balanceAnswer book railway → x ≡ y
-one-balance book railway x y e f = e ∙ sym f
-
-pub one-total : (book : List ℕ) (x y : Sum) → x ≡ totalAnswer book → y ≡ totalAnswer book → x ≡ y
-one-total book x y e f = e ∙ sym f
+  pub its-cancellation-tells-its-first-amounts : receiptTells (cancelAnswer now (n .till) (n .sequence))
+      ≡ answers (cond (cancelledIn n more) alreadyCancelled cancelled ∷ 1 ∷ parts)
+  unfolding receiptTells outcomeTells
+  its-cancellation-tells-its-first-amounts = rw (cancel-told first n bundle q more (told-booked _ parts sold .0), first-parts) (go (cancelledIn n more))
+    where
+      go : (c : Bool) → outcomeTells (cond c AlreadyCancelled Cancelled) parts ≡ answers (cond c alreadyCancelled cancelled ∷ 1 ∷ parts)
+      go true = refl
+      go false = refl
