@@ -15,7 +15,6 @@ use Rattle.layout.specs.Rules.{keepsRow}
 use Rattle.layout.specs.declared.rows.Row.{Row}
 use Rattle.bundle.specs.Records.{Rec}
 use Rattle.bundle.specs.Keys.{clash}
-use Rattle.bundle.specs.Verdict.{limit}
 use Rattle.bundle.specs.Meaning.{joined, recordAt, IsRecord, KeepsRules, There, OfCode, OfOffer, Serves, Linked}
 
 -- BYTES THAT ARE NO RECORD: the mark of no table stands there; or that of one does, with too few bytes behind it
@@ -65,11 +64,11 @@ pub record Fits (R : List Rec) (i : ℕ) : Type 0 where
 -- "First the records are checked from record 0, each for 2, then 3, then 4; only if none fails are they gone through again, from record 0, each record for 5,
 -- then 6, then 7": record i comes to be looked at in the first pass, and in the second
 pub record FirstLook (s : List ℕ) (R : List Rec) (i : ℕ) : Type 0 where
-  pub size : length s ≤ limit
+  pub size : length s ≤ 1048576
   pub earlier : (j : ℕ) → j < i → KeepsRules (recordAt R j)
 
 pub record SecondLook (s : List ℕ) (R : List Rec) (i : ℕ) : Type 0 where
-  pub size : length s ≤ limit
+  pub size : length s ≤ 1048576
   pub whole : s ≡ joined R
   pub fields : (j : ℕ) → j < length R → KeepsRules (recordAt R j)
   pub inside : i < length R
@@ -77,7 +76,7 @@ pub record SecondLook (s : List ℕ) (R : List Rec) (i : ℕ) : Type 0 where
 
 -- THE FAULT: number, place and detail
 pub data Fault (s : List ℕ) (R : List Rec) (rest : List ℕ) : ℕ → ℕ → ℕ → Type 0 where
-  too-long : limit < length s → Fault s R rest 1 0 0
+  too-long : 1048576 < length s → Fault s R rest 1 0 0
   unknown-mark : FirstLook s R (length R) → 0 < length rest → NoMark rest → Fault s R rest 2 (length R) 0
   too-short : FirstLook s R (length R) → TooShort rest → Fault s R rest 3 (length R) 0
   breaks-a-field : (i f : ℕ) → FirstLook s R i → i < length R → Breaks (recordAt R i) f → Fault s R rest 4 i f

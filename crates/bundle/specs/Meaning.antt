@@ -12,7 +12,6 @@ use Rattle.layout.specs.Fields.{bytesOf, byteOf, transferorOf}
 use Rattle.layout.specs.Rules.{keepsRules}
 use Rattle.bundle.specs.Records.{Rec, noRec}
 use Rattle.bundle.specs.Keys.{clash}
-use Rattle.bundle.specs.Verdict.{limit}
 
 -- the bytes of some records: each behind its mark, with nothing between them
 unfoldable pub joined : List Rec → List ℕ
@@ -63,7 +62,7 @@ pub record Linked (R : List Rec) (r : Rec) : Type 0 where
 
 -- the bytes s are the records R, and these keep every rule
 pub record Good (s : List ℕ) (R : List Rec) : Type 0 where
-  pub size : length s ≤ limit
+  pub size : length s ≤ 1048576
   pub bytes : s ≡ joined R
   pub whole : (i : ℕ) → i < length R → IsRecord (recordAt R i)
   pub fields : (i : ℕ) → i < length R → KeepsRules (recordAt R i)

@@ -16,8 +16,8 @@ use Rattle.sales.specs.Sales.{saleAnswer, cancelAnswer}
 use Rattle.sales.specs.Balances.{balanceAnswer, totalAnswer}
 use Rattle.offers.specs.Answers.{Told, answers, refuses, Among, verdictTells, fareTells, receiptTells, sumTells}
 use Rattle.offers.specs.Answers.{verdictNumbers, fareNumbers, saleNumbers, cancelNumbers, balanceNumbers, totalNumbers}
-use Rattle.offers.proofs.Promises.{the-numbers-of-a-verdict, the-numbers-of-a-fare, the-numbers-of-a-sale}
-use Rattle.offers.proofs.Promises.{the-numbers-of-a-cancellation, the-numbers-of-a-balance, the-numbers-of-a-total}
+use Rattle.offers.proofs.Orders.{the-numbers-of-a-verdict, the-numbers-of-a-fare, the-numbers-of-a-sale}
+use Rattle.offers.proofs.Orders.{the-numbers-of-a-cancellation, the-numbers-of-a-balance, the-numbers-of-a-total}
 use Rattle.edge.specs.Replies.{refusalIn, judgementReply, quoteReply, receiptReply, sumReply}
 use Rattle.edge.specs.ZeroNumber.{ZeroIfAnswered}
 

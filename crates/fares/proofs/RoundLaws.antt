@@ -9,7 +9,7 @@ use native.Mathlib.Omega.{arith}
 use lib.Dec.{eqb}
 use Rattle.common.proofs.Tests.{order}
 use Rattle.layout.specs.Bytes.{byte-plus, byte-minus, byte-0, byte-N}
-use Rattle.fares.specs.Rounding.{unit, upwards, downwards, nearest, rounded, IsUp, IsDown, apart, IsNear}
+use Rattle.fares.specs.Rounding.{unit, upwards, downwards, nearest, rounded, IsUp, IsDown, apart, IsNear, IsRounded}
 
 -- The one use of a product of two unknowns: of multiples of w, less than a step further is no further,
 below : (w q k : ℕ) → q * w < k * w + w → q ≤ k
@@ -160,26 +160,7 @@ module _ (n m : ℕ) (h : n ≤ m) where
       (by-cases (eqb mode byte-0) _ _ _ _ (near-mono f) (by-cases (eqb mode byte-N) _ _ _ _ (near-mono 1) (le-refl 0))))
 
 -- NOTHING is rounded to nothing.
-up-zero : (f : ℕ) → upwards 0 f ≡ 0
-unfolding upwards
-up-zero zero = refl
-up-zero (suc g) = omega (arith, up-is 0 (suc g) (omega arith) .least 0 (omega arith))
-
-near-zero : (f : ℕ) → nearest 0 f ≡ 0
-unfolding nearest
-near-zero zero = refl
-near-zero (suc g) = omega (arith, near-is 0 (suc g) (omega arith) .near 0)
-
-down-zero : (f : ℕ) → downwards 0 f ≡ 0
-down-zero f = omega (arith, down-small 0 f)
-
-pub rounded-zero : (mode f : ℕ) → rounded mode 0 f ≡ 0
-unfolding rounded
-rounded-zero mode f = rw (up-zero f, down-zero f, near-zero f, near-zero 1) (same-all 0 (eqb mode byte-plus) (eqb mode byte-minus) (eqb mode byte-0) (eqb mode byte-N))
-  where
-    same-all : (x : ℕ) (a b c d : Bool) → cond a x (cond b x (cond c x (cond d x x))) ≡ x
-    same-all x true b c d = refl
-    same-all x false true c d = refl
-    same-all x false false true d = refl
-    same-all x false false false true = refl
-    same-all x false false false false = refl
+pub nothing-left : {mode f r : ℕ} → IsRounded mode 0 f r → r ≡ 0
+nothing-left x =
+    ⊎-elim (λ a. omega (arith, a .1 .least 0 (omega arith)))
+    (⊎-elim (λ a. omega (arith, a .1 .not-above)) (⊎-elim (λ a. omega (arith, a .1 .near 0)) (λ a. omega (arith, a .1 .near 0)))) x

@@ -3,7 +3,7 @@
 use Prim.Native.Nat.{ℕ, _+_, _-_, _*_, _≤_}
 use mathlib.Core.Path.{_≡_, refl}
 use mathlib.Core.List.{List, [], _∷_}
-use native.Mathlib.Nat.{mul-zero, mul-le-mul, mul-le-mul-left, le-trans, le-refl}
+use native.Mathlib.Nat.{mul-le-mul, mul-le-mul-left, le-trans, le-refl}
 use native.Mathlib.Omega.{arith}
 use lib.ListN.{length, length-take}
 use Rattle.common.proofs.Digits.{number-small}
@@ -12,7 +12,7 @@ use Rattle.layout.specs.Fields.{rowWith, rowOf, bytesOf, numberIn, grantIn}
 use Rattle.layout.specs.declared.fields.Grant.{Grant}
 use Rattle.fares.specs.Rounding.{unit}
 use Rattle.fares.specs.Reductions.{conditionsGrant, cardGrants, reduceBy, reduceAll, steps, partBound}
-use Rattle.fares.proofs.RoundLaws.{rounded-small, rounded-mono, rounded-zero}
+use Rattle.fares.proofs.RoundLaws.{rounded-small, rounded-mono}
 
 -- a factor of three digits is at most 999, which those of CO and AR are
 factor-small : (t f : ℕ) (body : List ℕ) → rowOf t f .length ≡ 3 → numberIn t f body ≤ 999
@@ -84,10 +84,3 @@ pub part-small : (fare persons : ℕ) (rs : List Grant) → fare ≤ 999999 → 
 part-small fare persons rs hf hp g l =
     let a : reduceAll fare rs ≤ 999999 + 998 * steps = omega (arith, all-small rs g fare) in
     omega (arith, mul-le-mul a hp)
-
--- A WHOLE DISCOUNT leaves nothing, in every mode and for every amount.
-pub whole-discount : (a : ℕ) (r : Grant) → r .discount ≡ unit → reduceBy a r ≡ 0
-unfolding reduceBy
-whole-discount a r e =
-    let z : a * (unit - r .discount) ≡ 0 = rw e (mul-zero a) in
-    rw z (rounded-zero (r .mode) (r .factor))

@@ -43,6 +43,7 @@ use Rattle.fares.specs.Figures as fares
 use Rattle.fares.specs.declared.Leg.{Leg}
 use Rattle.fares.specs.declared.Question.{Question}
 use Rattle.fares.specs.declared.Pricing.the-variants.{Priced, Refused}
+use Rattle.fares.proofs.RoundLaws.{nothing-left}
 use Rattle.fares.proofs.LegLaws.{leg-small}
 use Rattle.fares.proofs.LegMeaning.{rounded-only, conditions-legs, card-legs}
 use Rattle.fares.proofs.Meaning.{fare-means, means-fare, no-fare-means, means-no-fare}
@@ -60,6 +61,8 @@ use Rattle.sales.specs.Balances.{balanceAnswer, totalAnswer}
 use Rattle.sales.specs.History.{Number, Op, sale, emptyBook, after, cancelledIn, bookedBy, owed, isIn, isNumber}
 use Rattle.sales.proofs.BalanceIsOwed.{always-sound, balance-told, total-told, balance-of-book, total-of-book, no-railway}
 use Rattle.sales.specs.declared.Outcome.the-variants.{Cancelled, AlreadyCancelled}
+use Rattle.sales.specs.Figures.{Day}
+use Rattle.sales.proofs.Computed.{the-day}
 use Rattle.sales.proofs.Unsound.{unsound-sale, unsound-cancel, unsound-balance, unsound-total}
 use Rattle.sales.proofs.SentFirst.{sale-without-number, cancel-without-number, cancel-of-unknown, sale-when-full, sale-booked, sale-refused}
 use Rattle.sales.proofs.SentAgain.{told-first, refused-other, nothing-changes, cancel-told}
@@ -147,9 +150,13 @@ pub what-says-why-refuses-the-fare : (bundle : List ℕ) (R : List Rec) (rest : 
 unfolding fareTells pricingTells
 what-says-why-refuses-the-fare bundle R rest c q n p d f = rw (means-no-fare bundle R rest c q n p d f)
 
--- Of two amounts rounded from one exact amount as one record says, none is another; and a part is at most 99,197,505 cents.
+-- An exact amount is rounded to one amount, as a record says; nothing to nothing, so that a discount of 100,000 leaves 0 in every mode. A part is at most
+-- 99,197,505 cents.
 pub rounding-has-one-outcome : {mode n f r s : ℕ} → IsRounded mode n f r → IsRounded mode n f s → r ≡ s
 rounding-has-one-outcome = rounded-only
+
+pub a-whole-discount-leaves-nothing : {mode f r : ℕ} → IsRounded mode 0 f r → r ≡ 0
+a-whole-discount-leaves-nothing = nothing-left
 
 pub a-part-is-bounded : (R : List Rec) (q : Question) (leg : Leg) → leg .fare ≤ 999999 → q .persons ≤ 99 → partOf R q leg ≤ 99197505
 a-part-is-bounded = leg-small
@@ -300,3 +307,7 @@ module _ (first : List Op) (n : Number) (bundle : List ℕ) (q : Question) (more
       go : (c : Bool) → outcomeTells (cond c AlreadyCancelled Cancelled) parts ≡ answers (cond c alreadyCancelled cancelled ∷ 1 ∷ parts)
       go true = refl
       go false = refl
+
+-- THE DAY of one till that document 01 tells, call by call.
+pub the-day-of-one-till : Day
+the-day-of-one-till = the-day

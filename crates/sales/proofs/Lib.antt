@@ -4,3 +4,4 @@ pub mod BalanceIsOwed
 pub mod Unsound
 pub mod SentFirst
 pub mod SentAgain
+pub mod Computed

@@ -2,3 +2,4 @@ pub mod Sales
 pub mod Balances
 pub mod History
 pub mod Helpers
+pub mod Figures
