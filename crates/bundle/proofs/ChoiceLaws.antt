@@ -203,7 +203,7 @@ module _ (R : List Rec) (w : Wanted) where
   first-general = firstWith (isGeneral w) R
 
   -- the record chosen is the first of the railway's own, or, where there is none, the first for all railways
-  pub choice-by : (i : ℕ) → choiceOf R w ≡ At i → ((first-own < n) × (first-own ≡ i)) ⊎ ((n ≤ first-own) × (first-general < n) × (first-general ≡ i))
+  choice-by : (i : ℕ) → choiceOf R w ≡ At i → ((first-own < n) × (first-own ≡ i)) ⊎ ((n ≤ first-own) × (first-general < n) × (first-general ≡ i))
   unfolding choiceOf
   choice-by i e =
       ⊎-elim (λ p. inl (ltb-true first-own n (p .0), on-day first-own (p .1)))

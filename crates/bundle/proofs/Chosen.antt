@@ -8,25 +8,25 @@ use mathlib.Core.Logic.{_⊎_, inl, inr, ⊎-elim}
 use native.Mathlib.Omega.{arith}
 use lib.Dec.{eqb, leb, ltb}
 use lib.ListN.{length, length-take, length-drop}
-use borrow.Author.Tests.{eqb-true, eq-eqb, ne-eqb, ltb-true, leb-true, le-leb}
+use borrow.Author.Tests.{eqb-true, eq-eqb, ltb-true, leb-true, le-leb}
 use Rattle.common.specs.Least.{least}
 use Rattle.common.specs.Lists.{any}
-use Rattle.common.specs.Digits.{digitsAfter, numberOf, valueOf, isWithin}
-use Rattle.common.proofs.Tests.{never, both-true, in-range, side}
+use Rattle.common.specs.Digits.{digitsAfter, numberOf, valueOf}
+use Rattle.common.proofs.Tests.{never, both-true, in-range}
 use Rattle.common.proofs.Least.{passes, finds-none}
 use Rattle.common.proofs.Lists.{is-same}
-use Rattle.layout.specs.Layout.{tableAt, tables, tableCount, endOf, lengthOf, CO}
+use Rattle.layout.specs.Layout.{tableAt, tables, tableCount, endOf, lengthOf}
 use Rattle.layout.specs.Company.{isCompany, companyOf, isAllRailways}
 use Rattle.layout.specs.Fields.{rowWith, rowOf, bytesOf, numberIn, ofOffers, offerOf, railwayOf, codeOf, codeFits, firstDay, lastDay, hasPeriod, holdsDay}
 use Rattle.layout.proofs.Tables.{computed, if-so, period, offer-stands, railway-stands, railway-kept}
 use Rattle.layout.proofs.Companies.{same-company, all-railways-zero}
 use Rattle.bundle.specs.Records.{Rec}
-use Rattle.bundle.specs.Choice.{isKeyed, forLegs, isOf, isOwn, isGeneral, firstWith, onDay, choiceOf}
+use Rattle.bundle.specs.Choice.{forLegs, isOf, isOwn, isGeneral, firstWith, onDay, choiceOf}
 use Rattle.bundle.specs.Chosen.{IsFor, NoneFor, Uses, HoldsDay, Chosen, used, not-that-day, nothing}
 use Rattle.bundle.specs.Meaning.{recordAt, IsRecord, KeepsRules, Good}
 use Rattle.bundle.specs.declared.choice.Wanted.{Wanted}
 use Rattle.bundle.specs.declared.choice.Choice.{Choice}
-use Rattle.bundle.specs.declared.choice.Choice.the-variants.{At, NotThatDay, Nothing}
+use Rattle.bundle.specs.declared.choice.Choice.the-variants.{At, Nothing}
 use Rattle.bundle.proofs.Unique.{only-one}
 
 -- THE TESTS of a record say what it is for

@@ -1,38 +1,36 @@
 -- A REFUSAL BY MEANING: what the first check that fails says of the bundle, and back.
 -- Assumes nothing.
-use Prim.Native.Nat.{ℕ, suc, _+_, _≤_, _<_}
+use Prim.Native.Nat.{ℕ, _+_, _≤_, _<_}
 use mathlib.Core.Path.{_≡_, refl, sym, _∙_, ap}
-use mathlib.Core.Bool.{Bool, true, false, cond, not, _&&_, and-false}
+use mathlib.Core.Bool.{Bool, true, false, cond, and-false}
 use mathlib.Core.List.{List, [], _∷_, _++_, append-nil}
-use mathlib.Core.Logic.{_⊎_, inl, inr, ⊎-elim}
-use native.Mathlib.Nat.{zero-add, le-antisymm}
+use mathlib.Core.Logic.{_⊎_, ⊎-elim}
+use native.Mathlib.Nat.{zero-add}
 use native.Mathlib.Omega.{arith}
 use lib.Dec.{eqb, ltb}
-use lib.ListN.{length, getD, length-append}
+use lib.ListN.{length, length-append}
 use borrow.Author.Tests.{lt-ltb, le-ltb, ltb-true, ltb-false, not-true, not-false, eqb-false, ne-eqb}
 use Rattle.common.specs.Least.{least}
 use Rattle.common.specs.Lists.{every, same}
-use Rattle.common.specs.Checks.{refuse, Finding, clean, fault, firstFault, eachFrom}
+use Rattle.common.specs.Checks.{refuse, clean, fault, firstFault, eachFrom}
 use Rattle.common.specs.declared.Refusal.{Refusal}
 use Rattle.common.proofs.Tests.{never, both-true, refuted}
-use Rattle.common.proofs.Least.{passes, before, hit, none, finds-none, none-finds}
-use Rattle.common.proofs.Lists.{same-is, is-same, every-append}
-use Rattle.common.proofs.Checks.{one-clean, clean-one, append-clean, clean-append, clean-each, one-fault, append-fault, last-fault, fault-append, each-clean, each-fault, fault-each, FirstAt}
+use Rattle.common.proofs.Least.{passes, before, hit, none}
+use Rattle.common.proofs.Lists.{same-is}
+use Rattle.common.proofs.Checks.{one-clean, append-clean, clean-append, clean-each, one-fault, append-fault, last-fault, fault-append, each-clean, each-fault, fault-each}
 use Rattle.layout.specs.Layout.{tableAt}
 use Rattle.layout.specs.Rules.{keepsRow, firstBroken, brokenField, keepsRules}
 use Rattle.layout.specs.declared.rows.Row.{Row}
 use Rattle.layout.proofs.Tables.{unbroken-keeps}
 use Rattle.bundle.specs.Records.{Rec, noRec, stepOf, recordsOf, restOf}
 use Rattle.bundle.specs.Keys.{otherTransferor, clash, earlierOf}
-use Rattle.bundle.specs.Links.{links, linkRows, noLink, missingLink}
 use Rattle.bundle.specs.Verdict.{limit, isUnknown, isShort, fieldChecks, endChecks, firstPass, recordChecks, secondPass, checks, verdictOf}
 use Rattle.bundle.specs.Meaning.{joined, recordAt, KeepsRules}
-use Rattle.bundle.specs.Faults.{NoMark, TooShort, Cut, Breaks, Missing, OfOneTransferor, OfNewKey, Fits, FirstLook, SecondLook, Fault}
+use Rattle.bundle.specs.Faults.{Cut, Breaks, OfOneTransferor, Fits, FirstLook, SecondLook, Fault}
 use Rattle.bundle.specs.Faults.{too-long, unknown-mark, too-short, breaks-a-field, other-transferor, repeats-a-key, lacks-a-link}
 use Rattle.bundle.specs.declared.walk.Step.{Step}
 use Rattle.bundle.specs.declared.walk.Step.the-variants.{Unknown, Short, Whole}
 use Rattle.bundle.specs.declared.Judgement.the-variants.{Refused}
-use Rattle.bundle.proofs.Here.{Over, unknown, short}
 use Rattle.bundle.proofs.PassLaws.{is-fault}
 use Rattle.bundle.proofs.LinkMeaning.{links-there, there-links, link-missing, missing-link}
 use Rattle.bundle.proofs.CutAndJoin.{cut-joined, cut-means, cut-only, unknown-means, short-means, no-mark-is, too-short-is, means-over}

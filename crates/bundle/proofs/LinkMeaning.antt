@@ -7,8 +7,8 @@ use mathlib.Core.List.{List}
 use mathlib.Core.Logic.{_⊎_, inl, inr, ⊎-elim}
 use native.Mathlib.Omega.{arith}
 use lib.Dec.{eqb, ltb}
-use lib.ListN.{length, getD}
-use borrow.Author.Tests.{eqb-true, eq-eqb, lt-ltb, ltb-true, not-true, not-false}
+use lib.ListN.{getD}
+use borrow.Author.Tests.{eqb-true, eq-eqb, lt-ltb, ltb-true, not-true}
 use Rattle.common.specs.Least.{least}
 use Rattle.common.specs.Lists.{any, same}
 use Rattle.common.proofs.Least.{passes, before, hit, none, finds-none, none-finds}

@@ -3,25 +3,24 @@
 -- Assumes nothing.
 use Prim.Native.Nat.{ℕ, suc, _+_, _<_}
 use mathlib.Core.Path.{_≡_, refl, sym, _∙_}
-use mathlib.Core.Bool.{Bool, true, false, not, _&&_}
+use mathlib.Core.Bool.{false, not}
 use mathlib.Core.List.{List, [], _∷_, _++_, append-nil}
 use native.Mathlib.Nat.{zero-add}
 use native.Mathlib.Omega.{arith}
 use lib.Dec.{eqb, ltb}
-use lib.ListN.{length, getD}
+use lib.ListN.{length}
 use borrow.Author.Tests.{lt-ltb, le-ltb, ltb-false, not-false}
-use Rattle.common.specs.Lists.{same, any}
+use Rattle.common.specs.Lists.{same}
 use Rattle.common.specs.Checks.{clean, firstFault, eachFrom}
 use Rattle.common.proofs.Tests.{never}
 use Rattle.common.proofs.Least.{finds-none, none-finds}
-use Rattle.common.proofs.Lists.{same-is, is-same, any-at, at-any}
+use Rattle.common.proofs.Lists.{same-is, is-same}
 use Rattle.common.proofs.Checks.{one-clean, clean-one, append-clean, clean-append, each-clean, clean-each}
 use Rattle.layout.specs.Fields.{transferorOf}
 use Rattle.layout.specs.Rules.{brokenField}
 use Rattle.layout.proofs.Tables.{unbroken-keeps}
 use Rattle.bundle.specs.Records.{Rec, noRec, recordsOf, restOf}
 use Rattle.bundle.specs.Keys.{otherTransferor, clash, earlierOf}
-use Rattle.bundle.specs.Links.{links, missingLink}
 use Rattle.bundle.specs.Verdict.{limit, fieldChecks, endChecks, firstPass, recordChecks, secondPass, checks, verdictOf}
 use Rattle.bundle.specs.Meaning.{joined, recordAt, KeepsRules, Good}
 use Rattle.bundle.specs.declared.Judgement.the-variants.{Accepted}

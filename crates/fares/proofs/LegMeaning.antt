@@ -1,7 +1,7 @@
 -- A LEG BY MEANING: what its checks find and what its part is, from the records that the rules choose, and back.
 -- Assumes nothing.
 use Prim.Native.Nat.{ℕ, _-_, _*_, _≤_, _<_}
-use mathlib.Core.Path.{_≡_, refl, sym, _∙_, ap, ap₂}
+use mathlib.Core.Path.{_≡_, refl, sym, _∙_, ap}
 use mathlib.Core.Bool.{Bool, true, false, cond, not, _&&_, and-false}
 use mathlib.Core.List.{List, [], _∷_, _++_, map}
 use mathlib.Core.Logic.{_⊎_, inl, inr, ⊎-elim}
@@ -11,19 +11,18 @@ use borrow.Author.Tests.{eqb-true, eq-eqb, ne-eqb, leb-true, le-leb, ltb-true}
 use Rattle.common.specs.Lists.{every, any}
 use Rattle.common.specs.Checks.{refuse, clean, fault, firstFault}
 use Rattle.common.proofs.Tests.{never, both-true, either-false, refuted}
-use Rattle.layout.specs.Bytes.{byte-Y, byte-plus, byte-minus, byte-0, byte-N}
+use Rattle.layout.specs.Bytes.{byte-Y}
 use Rattle.layout.specs.Layout.{CO, AR, tableAt, tables}
 use Rattle.layout.specs.Fields.{rowWith, rowOf, bytesOf, byteOf, numberIn, isFlagRow, isYes, ofOffers, dayRow, firstDay, lastDay, grantIn}
-use Rattle.layout.specs.declared.fields.Grant.{Grant}
 use Rattle.bundle.specs.Records.{Rec}
-use Rattle.bundle.specs.Choice.{isKeyed, forLegs, choiceOf}
-use Rattle.bundle.specs.Chosen.{NoneFor, Uses, HoldsDay, Chosen, used, not-that-day, nothing}
+use Rattle.bundle.specs.Choice.{forLegs, choiceOf}
+use Rattle.bundle.specs.Chosen.{HoldsDay, Chosen, used, not-that-day, nothing}
 use Rattle.bundle.specs.Meaning.{recordAt, Good}
 use Rattle.bundle.specs.declared.choice.Choice.{Choice}
 use Rattle.bundle.specs.declared.choice.Choice.the-variants.{At, NotThatDay, Nothing}
 use Rattle.bundle.proofs.Chosen.{choice-means, chosen-only}
 use Rattle.fares.specs.Reductions.{conditionsGrant, cardGrants, reduceBy, reduceAll}
-use Rattle.fares.specs.Rounding.{unit, IsRounded}
+use Rattle.fares.specs.Rounding.{IsRounded}
 use Rattle.fares.specs.Legs.{wantedFor, conditionsFor, bodies, cardCounts, cardFor, chosen, mostOf, personsFit, unread, firstSet, conditionChecks, legChecks, partBy, partOf}
 use Rattle.fares.specs.Meaning.{InForce, IsReduced, PersonsFit, NoneSet, FirstSet, unreadFields, IsConditions, IsCard, NoCard, none-given, not-allowed, no-record, not-in-force as card-not-in-force, CardCounts, LegFare}
 use Rattle.fares.specs.Meaning.{TurnedAway, no-conditions, not-in-force, persons-outside, unread as condition-unread}

@@ -13,7 +13,7 @@ use lib.ListN.{length, getD, take, replicate, length-map, length-append, length-
 use lib.Seq.{take-all, ext-getD}
 use borrow.Author.Tests.{le-ltb, not-true, not-false}
 use Rattle.common.specs.Lists.{sum}
-use Rattle.common.specs.Checks.{refuse, Finding, clean, fault, Check, check, firstFault, eachFrom}
+use Rattle.common.specs.Checks.{refuse, clean, fault, Check, check, firstFault, eachFrom}
 use Rattle.common.specs.declared.Refusal.{Refusal}
 use Rattle.common.proofs.Tests.{never, refuted, side}
 use Rattle.common.proofs.Lists.{first-length, first-at}
@@ -22,7 +22,7 @@ use Rattle.common.proofs.Checks.{by-finding, one-clean, clean-one, append-clean
 use Rattle.bundle.specs.Records.{Rec, recordsOf, restOf}
 use Rattle.bundle.specs.Verdict.{checks, verdictOf}
 use Rattle.bundle.specs.Meaning.{Good}
-use Rattle.bundle.specs.Faults.{Cut, Fault}
+use Rattle.bundle.specs.Faults.{Cut}
 use Rattle.bundle.proofs.PassLaws.{is-clean}
 use Rattle.bundle.proofs.CutAndJoin.{cut-only}
 use Rattle.bundle.proofs.Meaning.{accepted-good, good-accepted, recut}
@@ -31,8 +31,7 @@ use Rattle.fares.specs.Question.{noLeg, legsOf, inLimits}
 use Rattle.fares.specs.Reductions.{partBound}
 use Rattle.fares.specs.Legs.{legChecks, partOf}
 use Rattle.fares.specs.Fare.{partsOf, mostFare, priceChecks, fareChecks, noFare, priced, fareOf}
-use Rattle.fares.specs.Meaning.{legAt, InLimits, LegFare, TurnedAway, IsFare, NoFare, faulty, outside-limits, at-leg}
-use Rattle.fares.specs.declared.Leg.{Leg}
+use Rattle.fares.specs.Meaning.{legAt, InLimits, LegFare, IsFare, NoFare, faulty, outside-limits, at-leg}
 use Rattle.fares.specs.declared.Question.{Question}
 use Rattle.fares.specs.declared.Quote.{Quote}
 use Rattle.fares.specs.declared.Pricing.the-variants.{Priced}

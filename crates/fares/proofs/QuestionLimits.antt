@@ -1,9 +1,8 @@
 -- THE LIMITS OF A QUESTION: the test passes exactly if each value is within its own.
 -- Assumes nothing.
 use Prim.Native.Nat.{ℕ, _≤_, _<_}
-use mathlib.Core.Path.{_≡_, refl}
-use mathlib.Core.Bool.{true, _&&_}
-use mathlib.Core.List.{List}
+use mathlib.Core.Path.{_≡_}
+use mathlib.Core.Bool.{true}
 use native.Mathlib.Omega.{arith}
 use lib.Dec.{leb}
 use lib.ListN.{length, getD}
@@ -12,7 +11,6 @@ use Rattle.common.specs.Lists.{every}
 use Rattle.common.proofs.Tests.{both-true, in-range}
 use Rattle.common.proofs.Lists.{every-at, every-by, first-length, first-at}
 use Rattle.layout.specs.Company.{isRailway}
-use Rattle.layout.specs.Dates.{isDay}
 use Rattle.layout.proofs.Calendar.{a-day-is-real, real-is-a-day}
 use Rattle.fares.specs.Question.{between, legInLimits, noLeg, legsOf, limitsOf, inLimits}
 use Rattle.fares.specs.Meaning.{LegInLimits, legAt, InLimits}

@@ -17,7 +17,7 @@ use Rattle.common.proofs.Least.{before}
 use Rattle.common.specs.Digits.{numberOf, valueOf, isWithin}
 use Rattle.common.proofs.Lists.{same-is, same-parts}
 use Rattle.common.proofs.Tests.{never, both-true, side}
-use Rattle.layout.specs.Layout.{CO, NUMBER, FIRST-DAY, LAST-DAY, Table, noTable, tables, tableCount, tableAt, endOf, lengthOf, standFrom, numbers}
+use Rattle.layout.specs.Layout.{CO, NUMBER, FIRST-DAY, LAST-DAY, noTable, tables, tableCount, tableAt, endOf, lengthOf, standFrom, numbers}
 use Rattle.layout.specs.Fields.{fieldAt, bytesIn, rowWith, rowOf, bytesOf, transferorOf, ofOffers, offerOf, railwayOf, codeOf, codeFits, sameKey, dayRow, hasPeriod}
 use Rattle.layout.specs.Company.{isCompany}
 use Rattle.layout.specs.Rules.{ruled, keptBeside, keepsRow, firstBroken, brokenField, keepsRules}
@@ -33,11 +33,6 @@ computed p n e k h = not-false (p k) (before (λ j. not (p j)) n k (omega (arith
 pub no-table : (t : ℕ) → tableCount ≤ t → tableAt t ≡ noTable
 unfolding tableAt tables
 no-table t h = List·getD-eq-default tables noTable {n = t} h
-
--- THE ROWS OF EACH TABLE STAND from position 1 to its length, with no gap and no overlap
-pub rows-stand : every (λ (b : Table). standFrom 1 (b .rows)) tables ≡ true
-unfolding tables every standFrom
-rows-stand = refl
 
 -- MARKS have two bytes and differ: the first table that has the mark of t is t
 pub mark-length : (t : ℕ) → t < tableCount → length (tableAt t .mark) ≡ 2

@@ -13,11 +13,13 @@ use Rattle.common.specs.Checks.{refuse}
 use Rattle.common.specs.declared.Refusal.{Refusal}
 use Rattle.common.proofs.Lists.{upto-same}
 use Rattle.layout.specs.Layout.{CO, AR, tableCount, lengthOf}
+use Rattle.layout.specs.Fields.{bytesOf, ofOffers, transferorOf, offerOf, railwayOf}
 use Rattle.layout.specs.Rules.{keepsRules}
 use Rattle.layout.specs.Dates.{isDay}
 use Rattle.layout.specs.Calendar.{LeapYears, Months, RealDay}
 use Rattle.layout.specs.Values.{Field, values, Means, Readings, Railways}
 use Rattle.layout.specs.Figures as layout
+use Rattle.layout.proofs.Tables.{transferor-stands, offer-stands, railway-stands}
 use Rattle.layout.proofs.Calendar.{leap-years, months, a-day-is-real, real-is-a-day}
 use Rattle.layout.proofs.Values.{kept-by-its-values}
 use Rattle.layout.proofs.Readings.{readings, railways}
@@ -105,6 +107,16 @@ what-is-read-off-a-record = readings
 
 pub the-railways : Railways
 the-railways = railways
+
+-- In every table the transferor, and in every table of offers the offer and the railway, stand where CO has them.
+pub the-transferor-stands-alike : (t : ℕ) (body : List ℕ) → t < tableCount → bytesOf t 1 body ≡ transferorOf body
+the-transferor-stands-alike = transferor-stands
+
+pub the-offer-stands-alike : (t : ℕ) → ofOffers t ≡ true → (body : List ℕ) → bytesOf t 2 body ≡ offerOf body
+the-offer-stands-alike = offer-stands
+
+pub the-railway-stands-alike : (t : ℕ) → ofOffers t ≡ true → (body : List ℕ) → bytesOf t 3 body ≡ railwayOf body
+the-railway-stands-alike = railway-stands
 
 -- A DAY is a real one of the Gregorian calendar.
 pub the-leap-years : LeapYears
