@@ -57,3 +57,10 @@ pub record Sound (book : List ℕ) : Type 0 where
   pub differ : (i j : ℕ) → i < countOf book → j < countOf book → word (entryWords book i) tillAt ≡ word (entryWords book j) tillAt
       → word (entryWords book i) sequenceAt ≡ word (entryWords book j) sequenceAt → i ≡ j
   pub behind : (p : ℕ) → startOf (countOf book) ≤ p → word book p ≡ 0
+
+-- A SALE NUMBER, of till t and sequence u: entry i has it, and no entry has it
+abbrev pub Holds : List ℕ → ℕ → ℕ → ℕ → Type 0
+Holds book i t u = (word (entryWords book i) tillAt ≡ t) × (word (entryWords book i) sequenceAt ≡ u)
+
+abbrev pub HeldNowhere : List ℕ → ℕ → ℕ → Type 0
+HeldNowhere book t u = (i : ℕ) → i < countOf book → Holds book i t u → ⊥

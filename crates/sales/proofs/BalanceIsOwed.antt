@@ -3,17 +3,16 @@
 -- Assumes nothing.
 use Prim.Native.Nat.{ℕ, _+_, _≤_}
 use mathlib.Core.Path.{_≡_, refl, _∙_, ap, ap₂}
-use mathlib.Core.Bool.{Bool, true, false, cond, _&&_, _||_}
+use mathlib.Core.Bool.{Bool, true, false, cond, _||_}
 use mathlib.Core.List.{List, [], _∷_, _++_, map, map-append}
 use native.Mathlib.Omega.{arith}
-use lib.Dec.{leb}
 use lib.ListN.{replicate, length-replicate, getD-replicate}
 use borrow.Author.Tests.{le-leb}
 use Rattle.common.specs.Lists.{sum, every, upTo}
 use Rattle.common.specs.Least.{least}
-use Rattle.common.specs.Checks.{refuse, firstFault}
+use Rattle.common.specs.Checks.{firstFault}
 use Rattle.common.proofs.Sums.{sum-append}
-use Rattle.common.proofs.Tests.{in-range, refuted, either-way}
+use Rattle.common.proofs.Tests.{either-way}
 use Rattle.common.proofs.Lists.{every-drop, every-replicate}
 use Rattle.layout.specs.Company.{isRailway}
 use Rattle.bundle.specs.Records.{recordsOf}
@@ -21,19 +20,17 @@ use Rattle.fares.specs.Fare.{partsOf}
 use Rattle.fares.specs.declared.Leg.{Leg}
 use Rattle.fares.specs.declared.Question.{Question}
 use Rattle.book.specs.Words.{Entry, entries, countOf, bookLength, booking, startOf}
-use Rattle.book.specs.Meaning.{Within, Sound}
 use Rattle.book.specs.Sound.{isZero, hasNumber, numbersDiffer, soundWords}
 use Rattle.book.specs.Amounts.{liveAmount, balanceOf}
-use Rattle.book.specs.Due.{carriedBy, anyLeg, dueIn}
+use Rattle.book.specs.Due.{carriedBy, anyLeg}
 use Rattle.sales.specs.Sales.{saleWords, cancelWords}
 use Rattle.sales.specs.History.{Number, Op, sale, cancel, emptyBook, after, cancelledIn, books, bookedBy, owed}
 use Rattle.sales.specs.Balances.{balanceAnswer, totalAnswer}
-use Rattle.sales.specs.declared.Sum.the-variants.{Amount, Refused}
+use Rattle.sales.specs.declared.Sum.the-variants.{Amount}
 use Rattle.book.proofs.EntryWords.{cancelledEntry}
 use Rattle.book.proofs.SoundBook.{IsSound, sound-is}
 use Rattle.book.proofs.StaysSound.{cancelling}
-use Rattle.book.proofs.AmountsAreDue.{Counts, counts-railway, counts-all, balance-due, total-due}
-use Rattle.book.proofs.BookMeaning.{means-sound}
+use Rattle.book.proofs.AmountsAreDue.{Counts, counts-railway, counts-all}
 use Rattle.sales.proofs.SaleAndCancel.{saleNumberOf, same-sale-number, saleNumbersOf, not-booked, sold-due, books-priced, sale-entries, sale-sound, cancel-after}
 
 -- what the entries of a book come to once the operations have gone over them: those that are live and that no operation cancels
@@ -179,19 +176,3 @@ balance-told ops railway a b = rw (always-sound ops, le-leb 1 railway a, le-leb 
 pub total-told : (ops : List Op) → totalAnswer (after emptyBook ops) ≡ Amount (owed anyLeg [] ops)
 unfolding totalAnswer firstFault
 total-told ops = rw (always-sound ops) (ap Amount (balance-is-owed counts-all ops))
-
--- In any sound book, whatever its history, both are what is due from the questions of its entries that are not cancelled.
-pub balance-of-book : (w : List ℕ) → Sound w → (railway : ℕ) → 1 ≤ railway → railway ≤ 9999 → balanceAnswer w railway ≡ Amount (dueIn (carriedBy railway) (entries w))
-unfolding balanceAnswer firstFault isRailway
-balance-of-book w s railway a b = let f = means-sound w s in rw (f, le-leb 1 railway a, le-leb railway 9999 b) (ap Amount (balance-due w f railway))
-
-pub total-of-book : (w : List ℕ) → Sound w → totalAnswer w ≡ Amount (dueIn anyLeg (entries w))
-unfolding totalAnswer firstFault
-total-of-book w s = let f = means-sound w s in rw f (ap Amount (total-due w f))
-
--- A railway that is not 1 to 9999 is told 11.
-pub no-railway : (w : List ℕ) → Sound w → (railway : ℕ) → (Within 1 9999 railway → ⊥) → balanceAnswer w railway ≡ Refused (refuse 11 0 0)
-unfolding balanceAnswer firstFault isRailway
-no-railway w s railway outside =
-    let f = refuted (leb 1 railway && leb railway 9999) (λ e. outside (in-range 1 railway 9999 e)) in
-    rw (means-sound w s, f)

@@ -2,7 +2,7 @@
 -- refused; cancelled or not, after any history. A cancellation of it tells its first amounts too.
 -- Assumes nothing.
 use Prim.Native.Nat.{ℕ, _≤_, _<_}
-use mathlib.Core.Path.{_≡_, refl, sym, _∙_, ap, ap₂}
+use mathlib.Core.Path.{_≡_, refl, sym, _∙_, ap}
 use mathlib.Core.Bool.{Bool, true, false, cond, _||_, and-false}
 use mathlib.Core.List.{List, [], _∷_, _++_}
 use native.Mathlib.Omega.{arith}
@@ -16,21 +16,25 @@ use Rattle.common.proofs.Sums.{map-at}
 use Rattle.bundle.specs.Records.{recordsOf}
 use Rattle.fares.specs.Fare.{partsOf}
 use Rattle.fares.specs.declared.Question.{Question}
-use Rattle.book.specs.Words.{Entry, noEntry, entries, questionWords, booking}
+use Rattle.book.specs.Words.{Entry, noEntry, countOf, entries, entryAt, questionWords, booking}
 use Rattle.book.specs.Sound.{hasNumber}
 use Rattle.book.specs.SameQuestion.{SameQuestion}
-use Rattle.sales.specs.Sales.{isPresent, present, place, saleAnswer, saleWords, cancelAnswer, cancelWords, isBooked, receipt, noReceipt}
+use Rattle.book.specs.Meaning.{Sound, Holds}
+use Rattle.sales.specs.Sales.{saleAnswer, saleWords, cancelAnswer, cancelWords, isBooked, receipt, noReceipt}
 use Rattle.sales.specs.declared.Outcome.the-variants.{Booked, AlreadyBooked, Cancelled, AlreadyCancelled}
-use Rattle.sales.specs.History.{Number, Op, sale, cancel, emptyBook, after, cancelledIn, books, bookedBy}
+use Rattle.sales.specs.History.{Number, Op, sale, cancel, emptyBook, after, cancelledIn, isNumber, books, bookedBy}
 use Rattle.sales.specs.Helpers.{againAnswer}
 use Rattle.book.proofs.EntryWords.{cancelledEntry}
-use Rattle.book.proofs.SoundBook.{IsSound, sound-is}
+use Rattle.book.proofs.SoundBook.{IsSound, sound-is, entry-is, entries-length}
+use Rattle.book.proofs.BookMeaning.{sound-means}
+use Rattle.book.proofs.NumbersDiffer.{has-number}
 use Rattle.book.proofs.ComparedWords.{same-words, other-words}
 use Rattle.fares.proofs.FareLaws.{asked}
 use Rattle.book.proofs.StaysSound.{cancelling}
-use Rattle.sales.proofs.SaleAndCancel.{saleNumberOf, same-sale-number, saleNumbersOf, books-is, not-booked, sale-entries, sale-sound, cancel-after, books-number, books-priced, priced-in-limits, at-place}
+use Rattle.sales.proofs.SaleAndCancel.{saleNumberOf, same-sale-number, saleNumbersOf, books-is, not-booked, sale-entries, sale-sound, cancel-after, books-number, books-priced, priced-in-limits}
 use Rattle.sales.proofs.BalanceIsOwed.{stays-sound, empty-sound, booked-numbers}
-use Rattle.sales.proofs.AnswersByCase.{present-again, present-cancel, booked-is, again-same, again-other}
+use Rattle.sales.proofs.AnswersByCase.{booked-is, again-same, again-other}
+use Rattle.sales.proofs.InAnyBook.{there, sent-again, known-cancel}
 
 -- an entry once booked: where it is, and cancelled if an operation cancels its number
 abbrev later : Entry → List Op → Entry
@@ -139,16 +143,23 @@ module _ (first : List Op) (n : Number) (b : List ℕ) (q : Question) (more : Li
         numbered true = rw (eq-eqb (n .till) (n .till) refl, eq-eqb (n .sequence) (n .sequence) refl)
         numbered false = rw (eq-eqb (n .till) (n .till) refl, eq-eqb (n .sequence) (n .sequence) refl)
 
-    found : (isPresent now (n .till) (n .sequence) ≡ true) × (place now (n .till) (n .sequence) ≡ i)
-    found = at-place now now-sound (n .till) (n .sequence) i (stands .inside) (rw (stands .is) its-number)
+    number : isNumber n ≡ true
+    number = books-number start at-first n b q booked
 
-    the-entry : present now (n .till) (n .sequence) ≡ later entry more
-    the-entry = ap (λ k. getD (entries now) k noEntry) (found .1) ∙ stands .is
+    now-meant : Sound now
+    now-meant = sound-means now (sound-is now now-sound)
 
-    sent-again : (b′ : List ℕ) (q′ : Question) → saleAnswer now (n .till) (n .sequence) b′ q′ ≡ againAnswer (later entry more) i q′
-    sent-again b′ q′ =
-        present-again now (n .till) (n .sequence) b′ q′ (sound-is now now-sound) (books-number start at-first n b q booked) (found .0)
-        ∙ ap₂ (λ x k. againAnswer x k q′) the-entry (found .1)
+    inside-now : i < countOf now
+    inside-now = rw (entries-length now) at (stands .inside)
+
+    the-entry : entryAt now i ≡ later entry more
+    the-entry = sym (entry-is now i inside-now) ∙ stands .is
+
+    holds : Holds now i (n .till) (n .sequence)
+    holds = has-number (n .till) (n .sequence) (entryAt now i) (ap (hasNumber (n .till) (n .sequence)) the-entry ∙ its-number)
+
+    answered : (b′ : List ℕ) (q′ : Question) → saleAnswer now (n .till) (n .sequence) b′ q′ ≡ againAnswer (later entry more) i q′
+    answered b′ q′ = sent-again now now-meant n number i inside-now holds b′ q′ ∙ ap (λ x. againAnswer x i q′) the-entry
 
     asked-is : (c : Bool) → cond c (cancelledEntry entry) entry .asked ≡ questionWords q
     asked-is true = refl
@@ -163,7 +174,7 @@ module _ (first : List Op) (n : Number) (b : List ℕ) (q : Question) (more : Li
     pub told-first : (b′ : List ℕ) (q′ : Question) → SameQuestion q q′
         → saleAnswer now (n .till) (n .sequence) b′ q′ ≡ receipt (AlreadyBooked (cond (cancelledIn n more) 1 0)) (partsOf (recordsOf b) q)
     told-first b′ q′ h =
-        sent-again b′ q′
+        answered b′ q′
         ∙ again-same (later entry more) i q′ (ap (λ x. same x (questionWords q′)) (asked-is (cancelledIn n more)) ∙ same-words q q′ h)
         ∙ kept (cancelledIn n more)
 
@@ -174,14 +185,14 @@ module _ (first : List Op) (n : Number) (b : List ℕ) (q : Question) (more : Li
     pub refused-other : (b′ : List ℕ) (q′ : Question) → (SameQuestion q q′ → ⊥)
         → saleAnswer now (n .till) (n .sequence) b′ q′ ≡ noReceipt (refuse 23 (length (bookedBy [] first)) 0)
     refused-other b′ q′ h =
-        sent-again b′ q′
+        answered b′ q′
         ∙ (again-other (later entry more) i q′ (ap (λ x. same x (questionWords q′)) (asked-is (cancelledIn n more)) ∙ other-words q q′ few-legs h)
         ∙ ap (λ k. noReceipt (refuse 23 k 0)) (sym (length-map (entries start) saleNumberOf) ∙ ap length (booked-numbers first)))
 
     -- and nothing changes
     pub nothing-changes : (b′ : List ℕ) (q′ : Question) → saleWords now (n .till) (n .sequence) b′ q′ ≡ now
     unfolding saleWords isBooked
-    nothing-changes b′ q′ = rw (found .0, and-false)
+    nothing-changes b′ q′ = rw (there now now-meant n number i inside-now holds .0, and-false)
 
     -- A cancellation of it tells the same parts, and whether it was cancelled before.
     cancelled-by : (c : Bool) → receipt (cond (eqb (cond c (cancelledEntry entry) entry .status) 0) Cancelled AlreadyCancelled) (cond c (cancelledEntry entry) entry .parts)
@@ -191,5 +202,5 @@ module _ (first : List Op) (n : Number) (b : List ℕ) (q : Question) (more : Li
 
     pub cancel-told : cancelAnswer now (n .till) (n .sequence) ≡ receipt (cond (cancelledIn n more) AlreadyCancelled Cancelled) (partsOf (recordsOf b) q)
     cancel-told =
-        present-cancel now (n .till) (n .sequence) (sound-is now now-sound) (books-number start at-first n b q booked) (found .0)
+        known-cancel now now-meant n number i inside-now holds
         ∙ (ap (λ (x : Entry). receipt (cond (eqb (x .status) 0) Cancelled AlreadyCancelled) (x .parts)) the-entry ∙ cancelled-by (cancelledIn n more))

@@ -1,5 +1,4 @@
--- What a sale and a cancellation of a number that is not booked are told after any history, by the history and the fare alone: 22, 24 and 25 under their
--- conditions only, and else what the fare is told.
+-- What a sale and a cancellation of a number that is not booked are told after any history, by the history and the fare alone.
 -- Assumes nothing.
 use Prim.Native.Nat.{ℕ, _≤_, _<_}
 use mathlib.Core.Path.{_≡_, sym, _∙_, ap}
@@ -7,53 +6,57 @@ use mathlib.Core.Bool.{true, false}
 use mathlib.Core.List.{List, []}
 use native.Mathlib.Omega.{arith}
 use lib.ListN.{length, length-map}
-use borrow.Author.Tests.{ltb-false}
+use borrow.Author.Tests.{eq-eqb}
 use Rattle.common.specs.Checks.{refuse}
 use Rattle.common.specs.declared.Refusal.{Refusal}
+use Rattle.common.proofs.Tests.{never}
 use Rattle.fares.specs.Fare.{fareOf}
 use Rattle.fares.specs.declared.Question.{Question}
 use Rattle.fares.specs.declared.Pricing.the-variants.{Priced, Refused as NoFare}
 use Rattle.book.specs.Words.{countOf, entries}
-use Rattle.sales.specs.Sales.{receipt, noReceipt, place, saleAnswer, cancelAnswer}
+use Rattle.book.specs.Meaning.{Sound, HeldNowhere}
+use Rattle.book.proofs.BookMeaning.{sound-means}
+use Rattle.book.proofs.SoundBook.{entry-is, entries-length}
+use Rattle.sales.specs.Sales.{receipt, noReceipt, saleAnswer, cancelAnswer}
 use Rattle.sales.specs.History.{Number, Op, emptyBook, after, isIn, isNumber, bookedBy}
 use Rattle.sales.specs.declared.Outcome.the-variants.{Booked}
-use Rattle.book.proofs.SoundBook.{entries-length}
-use Rattle.sales.proofs.SaleAndCancel.{saleNumberOf, present-is}
-use Rattle.sales.proofs.BalanceIsOwed.{always-sound, booked-numbers}
-use Rattle.sales.proofs.AnswersByCase.{sale-no-number, sale-full, sale-first, quote-priced, quote-refused, cancel-no-number, cancel-unknown}
+use Rattle.sales.proofs.SaleAndCancel.{saleNumberOf, present-is, at-place}
+use Rattle.sales.proofs.BalanceIsOwed.{stays-sound, empty-sound, always-sound, booked-numbers}
+use Rattle.sales.proofs.InAnyBook.{unknown-cancel, sale-when-full, sale-booked, sale-refused}
 
-module _ (ops : List Op) (n : Number) where
+module _ (ops : List Op) where
   abbrev book : List ℕ
   book = after emptyBook ops
 
-  booked-count : countOf book ≡ length (bookedBy [] ops)
+  pub always-meant : Sound book
+  always-meant = sound-means book (always-sound ops)
+
+  pub booked-count : countOf book ≡ length (bookedBy [] ops)
   booked-count = sym (entries-length book) ∙ (sym (length-map (entries book) saleNumberOf) ∙ ap length (booked-numbers ops))
 
-  -- A number outside its limits,
-  pub sale-without-number : isNumber n ≡ false → (b : List ℕ) (q : Question) → saleAnswer book (n .till) (n .sequence) b q ≡ noReceipt (refuse 22 0 0)
-  sale-without-number e b q = sale-no-number book (n .till) (n .sequence) b q (always-sound ops) e
+  module _ (n : Number) (number : isNumber n ≡ true) (new : isIn n (bookedBy [] ops) ≡ false) where
+    -- a number that the history does not book is held nowhere
+    nowhere : HeldNowhere book (n .till) (n .sequence)
+    nowhere i l h =
+        let m : i < length (entries book) = omega (arith, entries-length book) in
+        let p = at-place book (stays-sound ops emptyBook empty-sound) (n .till) (n .sequence) i m (rw (entry-is book i l, eq-eqb _ _ (h .0), eq-eqb _ _ (h .1))) .0 in
+        never (sym (present-is book n ∙ ap (isIn n) (booked-numbers ops)) ∙ p) new
 
-  pub cancel-without-number : isNumber n ≡ false → cancelAnswer book (n .till) (n .sequence) ≡ noReceipt (refuse 22 0 0)
-  cancel-without-number e = cancel-no-number book (n .till) (n .sequence) (always-sound ops) e
+    -- A cancellation; a sale after 256 bookings,
+    pub unknown-is-told : cancelAnswer book (n .till) (n .sequence) ≡ noReceipt (refuse 25 0 0)
+    unknown-is-told = unknown-cancel book always-meant n number nowhere
 
-  module _ (number : isNumber n ≡ true) (new : isIn n (bookedBy [] ops) ≡ false) where
-    nowhere : countOf book ≤ place book (n .till) (n .sequence)
-    nowhere =
-        let absent = present-is book n ∙ (ap (isIn n) (booked-numbers ops) ∙ new) in
-        omega (arith, ltb-false (place book (n .till) (n .sequence)) (length (entries book)) absent, entries-length book)
-
-    -- a cancellation of a new one, and a sale of a new one: after 256 bookings,
-    pub cancel-of-unknown : cancelAnswer book (n .till) (n .sequence) ≡ noReceipt (refuse 25 0 0)
-    cancel-of-unknown = cancel-unknown book (n .till) (n .sequence) (always-sound ops) number nowhere
-
-    module _ (b : List ℕ) (q : Question) where
-      pub sale-when-full : 256 ≤ length (bookedBy [] ops) → saleAnswer book (n .till) (n .sequence) b q ≡ noReceipt (refuse 24 0 0)
-      sale-when-full f = sale-full book (n .till) (n .sequence) b q (always-sound ops) number nowhere (omega (arith, booked-count))
+    module _ (bundle : List ℕ) (q : Question) where
+      pub full-is-told : 256 ≤ length (bookedBy [] ops) → saleAnswer book (n .till) (n .sequence) bundle q ≡ noReceipt (refuse 24 0 0)
+      full-is-told f = sale-when-full book always-meant n number nowhere bundle q (omega (arith, booked-count))
 
       -- and before: booked with the parts of its fare, or refused as its fare is.
-      module _ (room : length (bookedBy [] ops) < 256) where
-        pub sale-booked : fareOf b q .outcome ≡ Priced → saleAnswer book (n .till) (n .sequence) b q ≡ receipt Booked (fareOf b q .parts)
-        sale-booked e = sale-first book (n .till) (n .sequence) b q (always-sound ops) number nowhere (omega (arith, booked-count)) ∙ quote-priced b q e
+      module _ (fewer : length (bookedBy [] ops) < 256) where
+        room : countOf book < 256
+        room = omega (arith, booked-count)
 
-        pub sale-refused : (why : Refusal) → fareOf b q .outcome ≡ NoFare why → saleAnswer book (n .till) (n .sequence) b q ≡ noReceipt why
-        sale-refused why e = sale-first book (n .till) (n .sequence) b q (always-sound ops) number nowhere (omega (arith, booked-count)) ∙ quote-refused b q why e
+        pub first-is-booked : fareOf bundle q .outcome ≡ Priced → saleAnswer book (n .till) (n .sequence) bundle q ≡ receipt Booked (fareOf bundle q .parts)
+        first-is-booked e = sale-booked book always-meant n number nowhere bundle q room e
+
+        pub first-is-refused : (why : Refusal) → fareOf bundle q .outcome ≡ NoFare why → saleAnswer book (n .till) (n .sequence) bundle q ≡ noReceipt why
+        first-is-refused why e = sale-refused book always-meant n number nowhere bundle q room why e
