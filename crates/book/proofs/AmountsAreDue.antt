@@ -54,7 +54,8 @@ module _ (q : Question) where
     unfolding dueFrom
     railway-due railway =
         over-legs (legPart railway (questionWords q) parts) _ (λ k l. ap (λ r. cond (eqb r railway) (getD parts k 0) 0) (railway-said k l (omega arith)))
-        (λ k l. ap (λ p. cond (eqb (getD (questionWords q) (railwayAt k) 0) railway) p 0) (unused k l) ∙ either-way (eqb (getD (questionWords q) (railwayAt k) 0) railway) 0)
+        (λ k l. let own = eqb (getD (questionWords q) (railwayAt k) 0) railway in
+        ap (λ p. cond own p 0) (unused k l) ∙ either-way own 0)
 
 -- THE LAW for a sale, of a railway and of all
 pub counts-railway : (railway : ℕ) → Counts (ofRailway railway) (carriedBy railway)

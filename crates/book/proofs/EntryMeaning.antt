@@ -102,7 +102,8 @@ module _ (b : List ℕ) (long : length b ≡ width) where
           railways = λ k l. rw (asked-at b (railwayAt k) (omega (arith, few))) at (in-range 1 (getD ws (railwayAt k) 0) 9999 (leg k l .0));
           fares = λ k l. rw (asked-at b (fareAt k) (omega (arith, few))) at (leb-true (getD ws (fareAt k) 0) 999999 (leg k l .1));
           parts = λ k l.
-              rw (part-at b k (omega (arith, few))) at (leb-true (getD (e .parts) k 0) partBound (every-at (λ p. leb p partBound) (e .parts) (s .bounded) k 0 (omega (arith, few, parts-long))));
+              let h = every-at (λ p. leb p partBound) (e .parts) (s .bounded) k 0 (omega (arith, few, parts-long)) in
+              rw (part-at b k (omega (arith, few))) at (leb-true (getD (e .parts) k 0) partBound h);
           status = leb-true (e .status) 1 (s .live-or-not);
           unused = in-entry;
         }

@@ -113,7 +113,7 @@ module _ {f : List ℕ → List ℕ → ℕ} {legs : Leg → Bool} (c : Counts f
   told-so-far (cancel n ∷ ops) w s =
       let a = cancel-after w s (n .till) (n .sequence) in
       let ih = told-so-far ops (cancelWords w (n .till) (n .sequence)) (a .1) in
-      let m : saleNumbersOf (entries (cancelWords w (n .till) (n .sequence))) ≡ saleNumbersOf (entries w) = rw (a .0) (numbers-stay (n .till) (n .sequence) (entries w)) in
+      let m = ap saleNumbersOf (a .0) ∙ numbers-stay (n .till) (n .sequence) (entries w) in
       record {
         balance = ih .balance ∙ rw (m, a .0, rest-cancelled f ops n (entries w));
         numbers = ih .numbers ∙ rw m;
@@ -169,7 +169,8 @@ unfolding rest sum
 balance-is-owed c ops = rw empty-entries at (told-so-far c ops emptyBook empty-sound .balance) ∙ omega arith
 
 -- DEMAND 3. Each railway is told what is owed to it, and the total is what is owed to all.
-pub balance-told : (ops : List Op) (railway : ℕ) → 1 ≤ railway → railway ≤ 9999 → balanceAnswer (after emptyBook ops) railway ≡ Amount (owed (carriedBy railway) [] ops)
+pub balance-told : (ops : List Op) (railway : ℕ) → 1 ≤ railway → railway ≤ 9999
+    → balanceAnswer (after emptyBook ops) railway ≡ Amount (owed (carriedBy railway) [] ops)
 unfolding balanceAnswer firstFault isRailway
 balance-told ops railway a b = rw (always-sound ops, le-leb 1 railway a, le-leb railway 9999 b) (ap Amount (balance-is-owed (counts-railway railway) ops))
 

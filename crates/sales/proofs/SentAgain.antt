@@ -195,8 +195,8 @@ module _ (first : List Op) (n : Number) (b : List ℕ) (q : Question) (more : Li
     nothing-changes b′ q′ = rw (there now now-meant n number i inside-now holds .0, and-false)
 
     -- A cancellation of it tells the same parts, and whether it was cancelled before.
-    cancelled-by : (c : Bool) → receipt (cond (eqb (cond c (cancelledEntry entry) entry .status) 0) Cancelled AlreadyCancelled) (cond c (cancelledEntry entry) entry .parts)
-        ≡ receipt (cond c AlreadyCancelled Cancelled) (partsOf (recordsOf b) q)
+    cancelled-by : (c : Bool) → let x : Entry = cond c (cancelledEntry entry) entry in
+        receipt (cond (eqb (x .status) 0) Cancelled AlreadyCancelled) (x .parts) ≡ receipt (cond c AlreadyCancelled Cancelled) (partsOf (recordsOf b) q)
     cancelled-by true = refl
     cancelled-by false = refl
 
