@@ -7,6 +7,7 @@ use mathlib.Core.Path.{_≡_, refl, sym, _∙_, ap}
 use mathlib.Core.Bool.{Bool, true, false, cond}
 use mathlib.Core.List.{List, [], _∷_, _++_, List·Memᴰ}
 use mathlib.Core.Logic.{_↔_}
+use lib.Dec.{eqb}
 use lib.ListN.{length, replicate}
 use Rattle.common.specs.Lists.{sum, upTo}
 use Rattle.common.specs.Checks.{refuse}
@@ -50,9 +51,9 @@ use Rattle.fares.proofs.LegLaws.{leg-small}
 use Rattle.fares.proofs.LegMeaning.{rounded-only, conditions-legs, card-legs}
 use Rattle.fares.proofs.Meaning.{fare-means, means-fare, no-fare-means, means-no-fare}
 use Rattle.fares.proofs.Computed.{fare-figures-hold}
-use Rattle.book.specs.Words.{entries}
+use Rattle.book.specs.Words.{Entry, countOf, entryAt, entries, questionOf}
 use Rattle.book.specs.Due.{carriedBy, anyLeg, dueIn}
-use Rattle.book.specs.Meaning.{Sound}
+use Rattle.book.specs.Meaning.{Sound, Holds}
 use Rattle.book.specs.SameQuestion.{SameQuestion}
 use Rattle.book.specs.Sound.{soundWords}
 use Rattle.book.proofs.BookMeaning.{sound-means, means-sound}
@@ -61,15 +62,16 @@ use Rattle.book.proofs.TotalIsSum.{total-is-sum}
 use Rattle.sales.specs.Sales.{saleAnswer, saleWords, cancelAnswer, cancelWords}
 use Rattle.sales.specs.Balances.{balanceAnswer, totalAnswer}
 use Rattle.sales.specs.History.{Number, Op, sale, emptyBook, after, cancelledIn, bookedBy, owed, isIn, isNumber}
-use Rattle.sales.proofs.BalanceIsOwed.{always-sound, balance-told, total-told, balance-of-book, total-of-book, no-railway}
+use Rattle.sales.proofs.BalanceIsOwed.{balance-told, total-told}
+use Rattle.sales.proofs.InAnyBook.{book-balance, no-railway, book-total, sale-without-number, cancel-without-number, same-sale, other-sale, known-cancel}
 use Rattle.sales.specs.declared.Outcome.the-variants.{Cancelled, AlreadyCancelled}
 use Rattle.sales.specs.Figures.{Day}
 use Rattle.sales.proofs.Computed.{the-day}
 use Rattle.sales.proofs.Unsound.{unsound-sale, unsound-cancel, unsound-balance, unsound-total}
-use Rattle.sales.proofs.SentFirst.{sale-without-number, cancel-without-number, cancel-of-unknown, sale-when-full, sale-booked, sale-refused}
+use Rattle.sales.proofs.SentFirst.{always-meant, unknown-is-told, full-is-told, first-is-booked, first-is-refused}
 use Rattle.sales.proofs.SentAgain.{told-first, refused-other, nothing-changes, cancel-told}
 use Rattle.sales.proofs.AnswersByCase.{booked-parts, not-booked-stays, not-cancelled-stays}
-use Rattle.offers.specs.Answers.{answers, refuses, verdictTells, pricingTells, fareTells, booked, alreadyBooked, cancelled, alreadyCancelled, outcomeTells, receiptTells, sumTells}
+use Rattle.offers.specs.Answers.{Told, answers, refuses, verdictTells, pricingTells, fareTells, booked, alreadyBooked, cancelled, alreadyCancelled, outcomeTells, receiptTells, sumTells}
 use Rattle.offers.proofs.Orders.{told-accepted, told-refused, told-priced, told-no-fare, told-booked, booked-told, cancelled-told}
 
 -- DEMAND 2, a bundle. Its records are the whole ones that stand one after the other from its start, and there is one way to cut it so.
@@ -219,11 +221,11 @@ module _ (book : List ℕ) (sound : Sound book) where
   pub a-balance-of-a-sound-book : (railway : ℕ) → 1 ≤ railway → railway ≤ 9999
       → sumTells (balanceAnswer book railway) ≡ answers (dueIn (carriedBy railway) (entries book) ∷ [])
   unfolding sumTells
-  a-balance-of-a-sound-book railway a b = rw (balance-of-book book sound railway a b)
+  a-balance-of-a-sound-book railway a b = rw (book-balance book sound railway a b)
 
   pub the-total-of-a-sound-book : sumTells (totalAnswer book) ≡ answers (dueIn anyLeg (entries book) ∷ [])
   unfolding sumTells
-  the-total-of-a-sound-book = rw (total-of-book book sound)
+  the-total-of-a-sound-book = rw (book-total book sound)
 
   pub no-railway-no-balance : (railway : ℕ) → ((1 ≤ railway) × (railway ≤ 9999) → ⊥) → sumTells (balanceAnswer book railway) ≡ refuses (refuse 11 0 0) (0 ∷ [])
   unfolding sumTells
@@ -235,10 +237,45 @@ module _ (book : List ℕ) (sound : Sound book) where
       let s = means-sound book sound in
       sym (total-due book s) ∙ (total-is-sum book s ∙ ap sum (upto-same _ _ 9999 (λ r l. balance-due book s (r + 1))))
 
+-- In a sound book a number outside its limits is refused with 22. One that entry i holds is told that entry's parts, and whether it is cancelled, for the same
+-- question; another question is refused with 23 at that entry.
+module _ (book : List ℕ) (sound : Sound book) (n : Number) where
+  pub no-number-no-sale : isNumber n ≡ false → (bundle : List ℕ) (q : Question)
+      → receiptTells (saleAnswer book (n .till) (n .sequence) bundle q) ≡ refuses (refuse 22 0 0) (replicate 10 0)
+  unfolding receiptTells outcomeTells
+  no-number-no-sale e bundle q = rw (sale-without-number book sound n e bundle q)
+
+  pub no-number-no-cancellation : isNumber n ≡ false → receiptTells (cancelAnswer book (n .till) (n .sequence)) ≡ refuses (refuse 22 0 0) (replicate 10 0)
+  unfolding receiptTells outcomeTells
+  no-number-no-cancellation e = rw (cancel-without-number book sound n e)
+
+  module _ (number : isNumber n ≡ true) (i : ℕ) (inside : i < countOf book) (held : Holds book i (n .till) (n .sequence)) where
+    abbrev entry : Entry
+    entry = entryAt book i
+
+    pub a-sale-in-the-book-is-told : (bundle : List ℕ) (q : Question) → SameQuestion (questionOf (entry .asked)) q
+        → receiptTells (saleAnswer book (n .till) (n .sequence) bundle q) ≡ answers (alreadyBooked ∷ entry .status ∷ entry .parts)
+    unfolding receiptTells outcomeTells
+    a-sale-in-the-book-is-told bundle q e = rw (same-sale book sound n number i inside held bundle q e)
+
+    pub its-number-is-not-used-again : (bundle : List ℕ) (q : Question) → (SameQuestion (questionOf (entry .asked)) q → ⊥)
+        → receiptTells (saleAnswer book (n .till) (n .sequence) bundle q) ≡ refuses (refuse 23 i 0) (replicate 10 0)
+    unfolding receiptTells outcomeTells
+    its-number-is-not-used-again bundle q e = rw (other-sale book sound n number i inside held bundle q e)
+
+    pub a-cancellation-in-the-book-is-told : receiptTells (cancelAnswer book (n .till) (n .sequence))
+        ≡ answers (cond (eqb (entry .status) 0) cancelled alreadyCancelled ∷ 1 ∷ entry .parts)
+    unfolding receiptTells outcomeTells
+    a-cancellation-in-the-book-is-told = rw (known-cancel book sound n number i inside held) (go (eqb (entry .status) 0))
+      where
+        go : (live : Bool) → outcomeTells (cond live Cancelled AlreadyCancelled) (entry .parts) ≡ answers (cond live cancelled alreadyCancelled ∷ 1 ∷ entry .parts)
+        go true = refl
+        go false = refl
+
 -- DEMAND 3. After any sales and cancellations from the empty book, each sale with any bundle: the book is sound,
 module _ (ops : List Op) where
   pub the-book-stays-sound : Sound (after emptyBook ops)
-  the-book-stays-sound = sound-means (after emptyBook ops) (always-sound ops)
+  the-book-stays-sound = always-meant ops
 
   -- every railway is owed what the history alone tells: over the different sales booked and not cancelled afterwards, the parts of its legs, as priced at the first
   -- booking; and so are all together.
@@ -251,41 +288,29 @@ module _ (ops : List Op) where
   unfolding sumTells
   the-total-is-what-the-history-tells = rw (total-told ops)
 
-  -- A number outside its limits is refused with 22;
-  module _ (n : Number) where
-    pub a-sale-without-a-number-is-refused : isNumber n ≡ false → (bundle : List ℕ) (q : Question)
-        → receiptTells (saleAnswer (after emptyBook ops) (n .till) (n .sequence) bundle q) ≡ refuses (refuse 22 0 0) (replicate 10 0)
+  -- A number that was never booked is unknown to a cancellation (25); its sale is refused after 256 bookings (24), and before is booked with the parts of its
+  -- fare, or refused as that is.
+  module _ (n : Number) (number : isNumber n ≡ true) (new : isIn n (bookedBy [] ops) ≡ false) where
+    pub an-unknown-sale-is-not-cancelled : receiptTells (cancelAnswer (after emptyBook ops) (n .till) (n .sequence)) ≡ refuses (refuse 25 0 0) (replicate 10 0)
     unfolding receiptTells outcomeTells
-    a-sale-without-a-number-is-refused e bundle q = rw (sale-without-number ops n e bundle q)
+    an-unknown-sale-is-not-cancelled = rw (unknown-is-told ops n number new)
 
-    pub a-cancellation-without-a-number-is-refused : isNumber n ≡ false
-        → receiptTells (cancelAnswer (after emptyBook ops) (n .till) (n .sequence)) ≡ refuses (refuse 22 0 0) (replicate 10 0)
-    unfolding receiptTells outcomeTells
-    a-cancellation-without-a-number-is-refused e = rw (cancel-without-number ops n e)
+    module _ (bundle : List ℕ) (q : Question) where
+      abbrev told : Told
+      told = receiptTells (saleAnswer (after emptyBook ops) (n .till) (n .sequence) bundle q)
 
-    -- one that was never booked is unknown to a cancellation (25); its sale is refused after 256 bookings (24), and before is booked with the parts of its fare, or
-    -- refused as that is.
-    module _ (number : isNumber n ≡ true) (new : isIn n (bookedBy [] ops) ≡ false) where
-      pub an-unknown-sale-is-not-cancelled : receiptTells (cancelAnswer (after emptyBook ops) (n .till) (n .sequence)) ≡ refuses (refuse 25 0 0) (replicate 10 0)
+      pub a-full-book-takes-no-sale : 256 ≤ length (bookedBy [] ops) → told ≡ refuses (refuse 24 0 0) (replicate 10 0)
       unfolding receiptTells outcomeTells
-      an-unknown-sale-is-not-cancelled = rw (cancel-of-unknown ops n number new)
+      a-full-book-takes-no-sale f = rw (full-is-told ops n number new bundle q f)
 
-      module _ (bundle : List ℕ) (q : Question) where
-        pub a-full-book-takes-no-sale : 256 ≤ length (bookedBy [] ops)
-            → receiptTells (saleAnswer (after emptyBook ops) (n .till) (n .sequence) bundle q) ≡ refuses (refuse 24 0 0) (replicate 10 0)
+      module _ (room : length (bookedBy [] ops) < 256) where
+        pub a-sale-is-booked-with-its-fare : fareOf bundle q .outcome ≡ Priced → told ≡ answers (booked ∷ 0 ∷ fareOf bundle q .parts)
         unfolding receiptTells outcomeTells
-        a-full-book-takes-no-sale f = rw (sale-when-full ops n number new bundle q f)
+        a-sale-is-booked-with-its-fare e = rw (first-is-booked ops n number new bundle q room e)
 
-        module _ (room : length (bookedBy [] ops) < 256) where
-          pub a-sale-is-booked-with-its-fare : fareOf bundle q .outcome ≡ Priced
-              → receiptTells (saleAnswer (after emptyBook ops) (n .till) (n .sequence) bundle q) ≡ answers (booked ∷ 0 ∷ fareOf bundle q .parts)
-          unfolding receiptTells outcomeTells
-          a-sale-is-booked-with-its-fare e = rw (sale-booked ops n number new bundle q room e)
-
-          pub a-sale-is-refused-as-its-fare : (why : Refusal) → fareOf bundle q .outcome ≡ Refused why
-              → receiptTells (saleAnswer (after emptyBook ops) (n .till) (n .sequence) bundle q) ≡ refuses why (replicate 10 0)
-          unfolding receiptTells outcomeTells
-          a-sale-is-refused-as-its-fare why e = rw (sale-refused ops n number new bundle q room why e)
+        pub a-sale-is-refused-as-its-fare : (why : Refusal) → fareOf bundle q .outcome ≡ Refused why → told ≡ refuses why (replicate 10 0)
+        unfolding receiptTells outcomeTells
+        a-sale-is-refused-as-its-fare why e = rw (first-is-refused ops n number new bundle q room why e)
 
 -- A sale booked in any history and sent again after any other, with any bundle: the same question is told the very parts that it was told first, and
 -- whether it is cancelled; another is refused with 23 and its place among the sales booked; and neither changes a word. Its cancellation tells the same parts.

@@ -33,7 +33,7 @@ use Rattle.sales.specs.Figures.{number, bundle, asked, parts, sold, Owes
 use Rattle.sales.specs.declared.Outcome.the-variants.{Booked, AlreadyBooked, Cancelled}
 use Rattle.sales.specs.declared.Sum.the-variants.{Amount}
 use Rattle.sales.proofs.BalanceIsOwed.{balance-told, total-told}
-use Rattle.sales.proofs.SentFirst.{sale-booked}
+use Rattle.sales.proofs.SentFirst.{first-is-booked}
 use Rattle.sales.proofs.SentAgain.{told-first, cancel-told}
 
 -- THE FARE, computed
@@ -52,7 +52,7 @@ owed-then ops a b c =
 
 first-booked : Sells [] Booked
 unfolding bookedBy any after
-first-booked = sale-booked [] number refl refl bundle asked (omega arith) (priced-parts .0) ∙ ap (receipt Booked) (priced-parts .1)
+first-booked = first-is-booked [] number refl refl bundle asked (omega arith) (priced-parts .0) ∙ ap (receipt Booked) (priced-parts .1)
 
 same-asked : SameQuestion asked asked
 same-asked = record { offer = refl; day = refl; persons = refl; card = refl; count = refl; railways = λ k l. refl; fares = λ k l. refl }
