@@ -11,12 +11,12 @@ use lib.ListN.{length, getD, drop, length-take, length-drop}
 use lib.Seq.{ext-getD, getD-take, getD-drop}
 use borrow.Author.Tests.{leb-true, le-leb, eq-eqb}
 use Rattle.common.specs.Lists.{every}
-use Rattle.common.proofs.Lists.{every-at, every-by, zero-at, is-same, first-length, first-at, upto-at}
+use Rattle.common.proofs.Lists.{every-at, every-by, zero-at, is-same, upto-at}
 use Rattle.common.proofs.Tests.{order, side, both-true, in-range}
-use Rattle.layout.specs.Company.{isRailway}
-use Rattle.layout.specs.Dates.{isDay}
-use Rattle.fares.specs.Question.{between, noLeg, legsOf, legInLimits, limitsOf, inLimits}
+use Rattle.fares.specs.Question.{between, noLeg, inLimits}
 use Rattle.fares.specs.Reductions.{partBound}
+use Rattle.fares.specs.Meaning.{LegInLimits, legAt, InLimits}
+use Rattle.fares.proofs.QuestionLimits.{limits-mean, means-limits}
 use Rattle.fares.specs.declared.Question.{Question}
 use Rattle.book.specs.Words.{Entry, offerAt, dayAt, cardsAt, countAt, personsAt, railwayAt, fareAt, legOf, questionWidth, questionOf, questionWords, sequenceAt, askedAt, partsAt, statusAt, spareAt, width, entryOf}
 use Rattle.book.specs.Sound.{isZero, numberInLimits, askedSound, entrySound}
@@ -24,7 +24,7 @@ use Rattle.book.specs.Meaning.{Within, word, askedWord, Used, till, sequ
 use Rattle.book.proofs.QuestionPlaces.{places, used-again}
 use Rattle.book.proofs.QuestionWords.{words-length, asked-again}
 use Rattle.book.proofs.EntryWords.{asked-at, part-at, count-at}
-use Rattle.book.proofs.SoundBook.{SoundEntry, sound-entry, asked-limits, leg-limits, no-part}
+use Rattle.book.proofs.SoundBook.{SoundEntry, sound-entry, asked-limits, no-part}
 
 module _ (b : List ℕ) (long : length b ≡ width) where
   abbrev e : Entry
@@ -45,24 +45,27 @@ module _ (b : List ℕ) (long : length b ≡ width) where
   spare-at : (j : ℕ) → j < 2 → getD (e .spare) j 0 ≡ word b (spareAt + j)
   spare-at j l = getD-take 2 (drop spareAt b) j 0 l ∙ getD-drop spareAt b j 0
 
+  leg-is : (k : ℕ) → k < 8 → legAt q k ≡ legOf ws k
+  unfolding questionOf
+  leg-is k l = upto-at (legOf ws) 8 k noLeg l
+
   -- FOUND SOUND, an entry is a sound sale
   module _ (g : entrySound e ≡ true) where
     abbrev s : SoundEntry e
     s = sound-entry e g
 
-    limit : (k : ℕ) → k < 6 → getD (limitsOf q) k true ≡ true
-    unfolding inLimits
-    limit k l = every-at (λ t. t) (limitsOf q) (asked-limits ws (s .asked-well)) k true l
+    -- the limits of its question
+    asked : InLimits q
+    asked = limits-mean q (asked-limits ws (s .asked-well))
 
     number : (between 1 65535 (e .till) ≡ true) × (between 1 4294967295 (e .sequence) ≡ true)
     number = both-true (between 1 65535 (e .till)) (between 1 4294967295 (e .sequence)) (s .number)
 
-    leg : (k : ℕ) → k < n → (isRailway (getD ws (railwayAt k) 0) ≡ true) × (leb (getD ws (fareAt k) 0) 999999 ≡ true)
-    leg k l = both-true (isRailway (getD ws (railwayAt k) 0)) (leb (getD ws (fareAt k) 0) 999999) (leg-limits ws (s .asked-well) k (rw (count-at b) l))
-
     few : n ≤ 8
-    unfolding questionOf
-    few = rw (asked-at b countAt (omega arith)) at (in-range 1 (q .count) 8 (limit 4 (omega arith)) .1)
+    few = rw (count-at b) at (asked .count .1)
+
+    leg : (k : ℕ) → k < n → LegInLimits (legOf ws k)
+    leg k l = rw (leg-is k (omega (arith, few))) at (asked .legs k (rw (count-at b) l))
 
     -- a place of the question, of the parts, and any
     in-question : (r : ℕ) → r < questionWidth → Used n (askedAt + r) ⊎ (word b (askedAt + r) ≡ 0)
@@ -89,18 +92,18 @@ module _ (b : List ℕ) (long : length b ≡ width) where
         (⊎-elim (λ c. inl (status c)) (spared p l)) (order p statusAt)) (side p partsAt)) (side p askedAt)
 
     pub means : SoundSale b
-    unfolding questionOf isRailway
+    unfolding questionOf
     means =
         record {
           till = in-range 1 (e .till) 65535 (number .0);
           sequence = in-range 1 (e .sequence) 4294967295 (number .1);
-          offer = rw (asked-at b offerAt (omega arith)) at (in-range 1 (q .offer) 99999 (limit 0 (omega arith)));
-          day = rw (asked-at b dayAt (omega arith)) at (limit 1 (omega arith));
-          persons = rw (asked-at b personsAt (omega arith)) at (in-range 1 (q .persons) 99 (limit 2 (omega arith)));
-          card = rw (asked-at b cardsAt (omega arith)) at (in-range 0 (q .card) 999 (limit 3 (omega arith)) .1);
-          count = rw (asked-at b countAt (omega arith)) at (in-range 1 (q .count) 8 (limit 4 (omega arith)));
-          railways = λ k l. rw (asked-at b (railwayAt k) (omega (arith, few))) at (in-range 1 (getD ws (railwayAt k) 0) 9999 (leg k l .0));
-          fares = λ k l. rw (asked-at b (fareAt k) (omega (arith, few))) at (leb-true (getD ws (fareAt k) 0) 999999 (leg k l .1));
+          offer = rw (asked-at b offerAt (omega arith)) at (asked .offer);
+          day = rw (asked-at b dayAt (omega arith)) at (asked .day);
+          persons = rw (asked-at b personsAt (omega arith)) at (asked .persons);
+          card = rw (asked-at b cardsAt (omega arith)) at (asked .card);
+          count = rw (asked-at b countAt (omega arith)) at (asked .count);
+          railways = λ k l. rw (asked-at b (railwayAt k) (omega (arith, few))) at (leg k l .railway);
+          fares = λ k l. rw (asked-at b (fareAt k) (omega (arith, few))) at (leg k l .fare);
           parts = λ k l.
               let h = every-at (λ p. leb p partBound) (e .parts) (s .bounded) k 0 (omega (arith, few, parts-long)) in
               rw (part-at b k (omega (arith, few))) at (leb-true (getD (e .parts) k 0) partBound h);
@@ -122,28 +125,20 @@ module _ (b : List ℕ) (long : length b ≡ width) where
     number-found : numberInLimits (e .till) (e .sequence) ≡ true
     number-found = rw (between-by 1 65535 _ (e .till) refl (s .till), between-by 1 4294967295 _ (e .sequence) refl (s .sequence))
 
-    leg-found : (k : ℕ) → k < n → k < 8 → legInLimits (legOf ws k) ≡ true
-    unfolding isRailway
-    leg-found k l m =
-        let r = s .railways k l in
-        rw (asked-at b (railwayAt k) (omega arith), asked-at b (fareAt k) (omega arith), le-leb 1 _ (r .0), le-leb _ 9999 (r .1), le-leb _ 999999 (s .fares k l))
-
-    legs-found : every legInLimits (legsOf q) ≡ true
-    unfolding questionOf
-    legs-found =
-        every-by legInLimits noLeg (legsOf q)
-        (λ k l. let m : k < q .count = omega (arith, first-length noLeg (q .count) (q .legs)) in
-        let i : getD (legsOf q) k noLeg ≡ legOf ws k = first-at noLeg (q .count) (q .legs) k m ∙ upto-at (legOf ws) 8 k noLeg (omega (arith, few-said)) in
-        rw i (leg-found k (omega (arith, said-count)) (omega (arith, few-said))))
+    leg-found : (k : ℕ) → k < n → k < 8 → LegInLimits (legOf ws k)
+    leg-found k l m = record { railway = rw (asked-at b (railwayAt k) (omega arith)) (s .railways k l); fare = rw (asked-at b (fareAt k) (omega arith)) (s .fares k l) }
 
     limits-found : inLimits q ≡ true
-    unfolding inLimits every questionOf
+    unfolding questionOf
     limits-found =
-        let o = between-by 1 99999 _ (q .offer) (asked-at b offerAt (omega arith)) (s .offer) in
-        let d = ap isDay (asked-at b dayAt (omega arith)) ∙ s .day in
-        let p = between-by 1 99 _ (q .persons) (asked-at b personsAt (omega arith)) (s .persons) in
-        let c = between-by 0 999 _ (q .card) (asked-at b cardsAt (omega arith)) (omega arith, s .card) in
-        rw (o, d, p, c, between-by 1 8 _ (q .count) said-count (s .count), legs-found)
+        means-limits q (record {
+          offer = rw (asked-at b offerAt (omega arith)) (s .offer);
+          day = rw (asked-at b dayAt (omega arith)) (s .day);
+          persons = rw (asked-at b personsAt (omega arith)) (s .persons);
+          card = rw (asked-at b cardsAt (omega arith)) (s .card);
+          count = rw said-count (s .count);
+          legs = λ k l. rw (leg-is k (omega (arith, few-said))) (leg-found k (omega (arith, said-count)) (omega (arith, few-said)));
+        })
 
     -- the words are those of the question that they say: a place is used, or it is zero in both
     word-again : (r : ℕ) → r < questionWidth → getD ws r 0 ≡ getD (questionWords q) r 0

@@ -3,11 +3,10 @@
 -- Assumes nothing.
 use Prim.Native.Nat.{ℕ, _+_, _≤_, _<_}
 use mathlib.Core.Path.{_≡_}
-use mathlib.Core.Bool.{true}
 use mathlib.Core.List.{List}
 use mathlib.Core.Logic.{_⊎_}
 use lib.ListN.{length, getD}
-use Rattle.layout.specs.Dates.{isDay}
+use Rattle.layout.specs.Calendar.{RealDay}
 use Rattle.book.specs.Words.{offerAt, dayAt, cardsAt, countAt, personsAt, railwayAt, fareAt, tillAt, sequenceAt, askedAt, partsAt, statusAt, width, bookLength, countOf, startOf, entryWords}
 
 abbrev pub Within : ℕ → ℕ → ℕ → Type 0
@@ -38,7 +37,7 @@ pub record SoundSale (ws : List ℕ) : Type 0 where
   pub till : Within 1 65535 (word ws tillAt)
   pub sequence : Within 1 4294967295 (word ws sequenceAt)
   pub offer : Within 1 99999 (askedWord ws offerAt)
-  pub day : isDay (askedWord ws dayAt) ≡ true
+  pub day : RealDay (askedWord ws dayAt)
   pub persons : Within 1 99 (askedWord ws personsAt)
   pub card : askedWord ws cardsAt ≤ 999
   pub count : Within 1 8 (askedWord ws countAt)

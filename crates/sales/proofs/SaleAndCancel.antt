@@ -7,7 +7,7 @@ use mathlib.Core.List.{List, [], _∷_, _++_, map}
 use mathlib.Core.Logic.{⊎-elim}
 use native.Mathlib.Omega.{arith}
 use lib.Dec.{eqb, leb, ltb}
-use lib.ListN.{length, getD, drop, replicate, length-append, length-map, length-replicate}
+use lib.ListN.{length, getD, drop, replicate, length-map}
 use lib.Seq.{drop-at}
 use borrow.Author.Tests.{le-leb, lt-leb, lt-ltb, le-ltb, ltb-false, ltb-true, leb-true, not-true, not-false}
 use Rattle.common.specs.Lists.{every, any, same}
@@ -26,6 +26,7 @@ use Rattle.fares.specs.Fare.{partsOf, priceChecks, fareChecks, quoted, fareOf}
 use Rattle.fares.specs.declared.Leg.{Leg}
 use Rattle.fares.specs.declared.Question.{Question}
 use Rattle.fares.proofs.FareLaws.{asked, part-small}
+use Rattle.fares.proofs.Meaning.{eight-parts}
 use Rattle.book.specs.Words.{Entry, noEntry, capacity, countOf, entries, questionWords, booking}
 use Rattle.book.specs.Due.{dueFrom}
 use Rattle.book.specs.Sound.{isZero, numberInLimits, entrySound, hasNumber, heldAt}
@@ -117,10 +118,7 @@ module _ (b : List ℕ) (q : Question) (c : firstFault (fareChecks b q) ≡ clea
   own-length = length-map (legsOf q) (partOf (recordsOf b) q) ∙ first-length noLeg (q .count) (q .legs)
 
   pub parts-length : length parts ≡ 8
-  unfolding partsOf
-  parts-length =
-      length-append own (replicate (8 - q .count) 0)
-      ∙ (rw (length-replicate {A = ℕ} (8 - q .count) 0) (omega (arith, own-length, asked q priced-in-limits .few)))
+  parts-length = eight-parts (recordsOf b) q (asked q priced-in-limits .few)
 
   pub parts-clear : every isZero (drop (q .count) parts) ≡ true
   unfolding partsOf
