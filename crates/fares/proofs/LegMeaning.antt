@@ -155,11 +155,11 @@ unfolding unread
 one-unread-is co f h = rw (h .split) (one-set co (h .earlier) f (h .later) (rw (h .split) at unread-flags) (h .set) (h .none-earlier))
 
 -- A LEG of an accepted bundle
-pub conditions-legs : forLegs CO ≡ true
+conditions-legs : forLegs CO ≡ true
 unfolding forLegs ofOffers any every tableAt tables
 conditions-legs = refl
 
-pub card-legs : forLegs AR ≡ true
+card-legs : forLegs AR ≡ true
 unfolding forLegs ofOffers any every tableAt tables
 card-legs = refl
 

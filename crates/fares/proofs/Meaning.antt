@@ -35,6 +35,7 @@ use Rattle.fares.specs.Meaning.{legAt, InLimits, LegFare, IsFare, NoFare
 use Rattle.fares.specs.declared.Question.{Question}
 use Rattle.fares.specs.declared.Quote.{Quote}
 use Rattle.fares.specs.declared.Pricing.the-variants.{Priced}
+use Rattle.fares.proofs.LegLaws.{leg-small}
 use Rattle.fares.proofs.FareLaws.{asked, sum-of-parts}
 use Rattle.fares.proofs.QuestionLimits.{limits-mean, means-limits}
 use Rattle.fares.proofs.LegMeaning.{leg-means, means-turned, means-priced}
@@ -252,3 +253,10 @@ means-fare s R q fare parts f = answered-by s q fare parts (rw (recut s R (f .go
 pub means-no-fare : (s : List ℕ) (R : List Rec) (rest : List ℕ) → Cut s R rest → (q : Question) (n p d : ℕ) → NoFare s R rest q n p d
     → fareOf s q ≡ noFare (refuse n p d)
 means-no-fare s R rest c q n p d f = let e = cut-only s R rest c in refused-by s q n p d (rw (e .0, e .1) f)
+
+-- NO PART of a fare is above the bound
+pub part-bounded : (s : List ℕ) (R : List Rec) (q : Question) (fare : ℕ) (parts : List ℕ) → IsFare s R q fare parts → (k : ℕ) → getD parts k 0 ≤ partBound
+part-bounded s R q fare parts f k =
+    ⊎-elim
+    (λ l. rw (means-priced s R (f .good) q (legAt q k) k _ (f .leg-by-leg k l) .1) (leg-small R q (legAt q k) (f .in-limits .legs k l .fare) (f .in-limits .persons .1)))
+    (λ l. rw (f .none-beyond k l) (omega arith)) (side k (q .count))

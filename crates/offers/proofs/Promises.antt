@@ -8,12 +8,12 @@ use mathlib.Core.Bool.{Bool, true, false, cond}
 use mathlib.Core.List.{List, [], _∷_, _++_, List·Memᴰ}
 use mathlib.Core.Logic.{_↔_}
 use lib.Dec.{eqb}
-use lib.ListN.{length, replicate}
-use Rattle.common.specs.Lists.{sum, upTo}
+use lib.ListN.{length, getD, replicate}
+use Rattle.common.specs.Lists.{every, any, sum, upTo}
 use Rattle.common.specs.Checks.{refuse}
 use Rattle.common.specs.declared.Refusal.{Refusal}
 use Rattle.common.proofs.Lists.{upto-same}
-use Rattle.layout.specs.Layout.{CO, AR, tableCount, lengthOf}
+use Rattle.layout.specs.Layout.{CO, AR, ME, tables, tableAt, tableCount, lengthOf}
 use Rattle.layout.specs.Fields.{bytesOf, ofOffers, transferorOf, offerOf, railwayOf}
 use Rattle.layout.specs.Rules.{keepsRules}
 use Rattle.layout.specs.Dates.{isDay}
@@ -39,17 +39,16 @@ use Rattle.bundle.proofs.Meaning.{accepted-good, good-accepted}
 use Rattle.bundle.proofs.Faults.{refused-fault, fault-refused}
 use Rattle.bundle.proofs.Computed.{verdict-figures-hold}
 use Rattle.fares.specs.Rounding.{IsRounded}
-use Rattle.fares.specs.Legs.{partOf}
 use Rattle.fares.specs.Fare.{partsOf, fareOf}
-use Rattle.fares.specs.Meaning.{IsFare, NoFare}
+use Rattle.fares.specs.Question.{inLimits}
+use Rattle.fares.specs.Meaning.{InLimits, IsFare, NoFare}
 use Rattle.fares.specs.Figures as fares
-use Rattle.fares.specs.declared.Leg.{Leg}
 use Rattle.fares.specs.declared.Question.{Question}
 use Rattle.fares.specs.declared.Pricing.the-variants.{Priced, Refused}
 use Rattle.fares.proofs.RoundLaws.{nothing-left}
-use Rattle.fares.proofs.LegLaws.{leg-small}
-use Rattle.fares.proofs.LegMeaning.{rounded-only, conditions-legs, card-legs}
-use Rattle.fares.proofs.Meaning.{fare-means, means-fare, no-fare-means, means-no-fare}
+use Rattle.fares.proofs.LegMeaning.{rounded-only}
+use Rattle.fares.proofs.QuestionLimits.{limits-mean, means-limits}
+use Rattle.fares.proofs.Meaning.{fare-means, means-fare, no-fare-means, means-no-fare, part-bounded}
 use Rattle.fares.proofs.Computed.{fare-figures-hold}
 use Rattle.book.specs.Words.{Entry, countOf, entryAt, entries, questionOf}
 use Rattle.book.specs.Due.{carriedBy, anyLeg, dueIn}
@@ -130,7 +129,8 @@ the-months = months
 pub a-day-is-a-real-one : (d : ℕ) → (isDay d ≡ true) ↔ RealDay d
 a-day-is-a-real-one d = (a-day-is-real d, real-is-a-day d)
 
--- In a bundle that keeps the rules a table of CO, AR or ME has one record at most for an offer, a railway or 0000, and a code; so a leg uses one at most.
+-- In a bundle that keeps the rules a table whose key is the offer, the railway and its code has one record at most for them, or for 0000; so a leg uses one at
+-- most. Such tables are CO, AR and ME.
 pub there-is-one-record-for-a-leg : (bundle : List ℕ) (R : List Rec) → Good bundle R → (t : ℕ) → forLegs t ≡ true → (offer code railway i j : ℕ) → i < length R → j < length R
     → IsFor t offer code railway (recordAt R i) → IsFor t offer code railway (recordAt R j) → i ≡ j
 there-is-one-record-for-a-leg = only-one
@@ -139,8 +139,9 @@ pub a-leg-uses-one-record : (bundle : List ℕ) (R : List Rec) → Good bundle R
     → Uses R t offer code railway i → Uses R t offer code railway j → i ≡ j
 a-leg-uses-one-record = uses-one
 
-pub such-are-the-conditions-and-the-cards : (forLegs CO ≡ true) × (forLegs AR ≡ true)
-such-are-the-conditions-and-the-cards = (conditions-legs, card-legs)
+pub such-are-the-tables-of-offers : (forLegs CO ≡ true) × (forLegs AR ≡ true) × (forLegs ME ≡ true)
+unfolding forLegs ofOffers any every tableAt tables
+such-are-the-tables-of-offers = (refl, refl, refl)
 
 -- DEMAND 2, a fare. It is answered only with what it means: for each leg the CO that it uses, the plain fare less its discount, rounded as that record says, and
 -- if a card counts the same by its AR; times the persons; and the sum. And it is answered if it means that.
@@ -153,7 +154,11 @@ pub what-the-records-say-is-the-fare : (bundle : List ℕ) (R : List Rec) (q : Q
 unfolding fareTells pricingTells
 what-the-records-say-is-the-fare bundle R q fare parts f = rw (means-fare bundle R q fare parts f)
 
--- It is refused only for a fault of the bundle, a question outside its limits (11), or the first leg that has no CO (12), none in force (13), other persons (14)
+-- A question is within its limits exactly if each of its values is.
+pub the-limits-of-a-question : (q : Question) → (inLimits q ≡ true) ↔ InLimits q
+the-limits-of-a-question q = (limits-mean q, means-limits q)
+
+-- A fare is refused only for a fault of the bundle, a question outside its limits (11), or the first leg that has no CO (12), none in force (13), other persons (14)
 -- or a condition unread (15); and if that is so.
 pub a-refused-fare-says-why : (bundle : List ℕ) (q : Question) (why : Refusal) (us : List ℕ) → fareTells (fareOf bundle q) ≡ refuses why us
     → NoFare bundle (recordsOf bundle) (restOf bundle) q (why .number) (why .place) (why .detail)
@@ -172,8 +177,8 @@ rounding-has-one-outcome = rounded-only
 pub a-whole-discount-leaves-nothing : {mode f r : ℕ} → IsRounded mode 0 f r → r ≡ 0
 a-whole-discount-leaves-nothing = nothing-left
 
-pub a-part-is-bounded : (R : List Rec) (q : Question) (leg : Leg) → leg .fare ≤ 999999 → q .persons ≤ 99 → partOf R q leg ≤ 99197505
-a-part-is-bounded = leg-small
+pub a-part-is-bounded : (bundle : List ℕ) (R : List Rec) (q : Question) (fare : ℕ) (parts : List ℕ) → IsFare bundle R q fare parts → (k : ℕ) → getD parts k 0 ≤ 99197505
+a-part-is-bounded = part-bounded
 
 -- THE FIGURES: of the layout and the calendar, of verdicts, and of fares.
 pub the-figures-of-the-layout-hold : (x : layout.Figure) → List·Memᴰ x layout.figures → layout.Says x
