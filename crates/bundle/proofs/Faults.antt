@@ -18,20 +18,21 @@ use Rattle.common.proofs.Tests.{never, both-true, refuted}
 use Rattle.common.proofs.Least.{passes, before, hit, none}
 use Rattle.common.proofs.Lists.{same-is}
 use Rattle.common.proofs.Checks.{one-clean, append-clean, clean-append, clean-each, one-fault, append-fault, last-fault, fault-append, each-clean, each-fault, fault-each}
-use Rattle.layout.specs.Layout.{tableAt}
+use Rattle.layout.specs.Layout.{tableCount, tableAt}
 use Rattle.layout.specs.Rules.{keepsRow, firstBroken, brokenField, keepsRules}
 use Rattle.layout.specs.declared.rows.Row.{Row}
 use Rattle.layout.proofs.Tables.{unbroken-keeps}
 use Rattle.bundle.specs.Records.{Rec, noRec, stepOf, recordsOf, restOf}
 use Rattle.bundle.specs.Keys.{otherTransferor, clash, earlierOf}
 use Rattle.bundle.specs.Verdict.{limit, isUnknown, isShort, fieldChecks, endChecks, firstPass, recordChecks, secondPass, checks, verdictOf}
-use Rattle.bundle.specs.Meaning.{joined, recordAt, KeepsRules}
+use Rattle.bundle.specs.Meaning.{joined, recordAt, KeepsRules, SameKey}
 use Rattle.bundle.specs.Faults.{Cut, Breaks, OfOneTransferor, Fits, FirstLook, SecondLook, Fault}
 use Rattle.bundle.specs.Faults.{too-long, unknown-mark, too-short, breaks-a-field, other-transferor, repeats-a-key, lacks-a-link}
 use Rattle.bundle.specs.declared.walk.Step.{Step}
 use Rattle.bundle.specs.declared.walk.Step.the-variants.{Unknown, Short, Whole}
 use Rattle.bundle.specs.declared.Judgement.the-variants.{Refused}
 use Rattle.bundle.proofs.PassLaws.{is-fault}
+use Rattle.bundle.proofs.KeyMeaning.{clash-means, means-clash}
 use Rattle.bundle.proofs.LinkMeaning.{links-there, there-links, link-missing, missing-link}
 use Rattle.bundle.proofs.CutAndJoin.{cut-joined, cut-means, cut-only, unknown-means, short-means, no-mark-is, too-short-is, means-over}
 use Rattle.bundle.proofs.Meaning.{nothing-left, left-nothing, same-transferor, transferor-same, no-clash, clash-none}
@@ -94,21 +95,23 @@ module _ (R : List Rec) (i : ℕ) where
       let c = one-clean _ 7 i _ [] (b .1) in
       record { of-one-transferor = same-transferor R r (a .0); of-new-key = no-clash R r i (b .0); linked = links-there R r (c .0) }
 
-  fits-clean : Fits R i → firstFault (recordChecks R i r) ≡ clean
+  fits-clean : r .table < tableCount → Fits R i → firstFault (recordChecks R i r) ≡ clean
   unfolding firstFault
-  fits-clean f = rw (transferor-same R r (f .of-one-transferor), clash-none R r i (f .of-new-key), there-links R r (f .linked))
+  fits-clean h f = rw (transferor-same R r (f .of-one-transferor), clash-none R r h i (f .of-new-key), there-links R r (f .linked))
 
-  first-clash : ltb (earlierOf R i r) i ≡ true → let j = earlierOf R i r in
-      (j < i) × (clash r (recordAt R j) ≡ true) × ((m : ℕ) → m < j → clash r (recordAt R m) ≡ false)
+  first-clash : r .table < tableCount → ltb (earlierOf R i r) i ≡ true → let j = earlierOf R i r in
+      (j < i) × SameKey r (recordAt R j) × ((m : ℕ) → m < j → SameKey r (recordAt R m) → ⊥)
   unfolding earlierOf
-  first-clash e =
+  first-clash h e =
       let p : ℕ → Bool = λ j. clash r (recordAt R j) in
       let l = ltb-true (least p i) i e in
-      (l, passes p i l, λ m h. before p i m h)
+      (l, clash-means r _ h (passes p i l), λ m b k. never (means-clash r (recordAt R m) k) (before p i m b))
 
-  clash-first : (j : ℕ) → j < i → clash r (recordAt R j) ≡ true → ((m : ℕ) → m < j → clash r (recordAt R m) ≡ false) → earlierOf R i r ≡ j
+  clash-first : r .table < tableCount → (j : ℕ) → j < i → SameKey r (recordAt R j) → ((m : ℕ) → m < j → SameKey r (recordAt R m) → ⊥) → earlierOf R i r ≡ j
   unfolding earlierOf
-  clash-first j l c n = let p : ℕ → Bool = λ k. clash r (recordAt R k) in hit p j i (none p j n) c l
+  clash-first h j l c n =
+      let p : ℕ → Bool = λ k. clash r (recordAt R k) in
+      hit p j i (none p j (λ m b. refuted (clash r (recordAt R m)) (λ e. n m b (clash-means r (recordAt R m) h e)))) (means-clash r (recordAt R j) c) l
 
   another : (OfOneTransferor R i → ⊥) → otherTransferor R r ≡ true
   unfolding otherTransferor
@@ -191,7 +194,7 @@ module _ (s : List ℕ) where
         ⊎-elim
         (λ a. rw (← a .1) (other-transferor i k (λ t. never (a .0) (transferor-same R r t))))
         (λ a. let t = same-transferor R r (a .0) in
-        ⊎-elim (λ b. let c = first-clash R i (b .0) in rw (← b .1) (repeats-a-key i (earlierOf R i r) k t (c .0) (c .1) (c .2)))
+        ⊎-elim (λ b. let c = first-clash R i (cut-means s .whole i (h .inside) .named) (b .0) in rw (← b .1) (repeats-a-key i (earlierOf R i r) k t (c .0) (c .1) (c .2)))
         (λ b. let c = last-fault _ 7 i _ (b .1) in rw (← c .1) (lacks-a-link i _ k t (no-clash R r i (b .0)) (link-missing R r (c .0))))
         (one-fault _ 6 i _ _ (a .1)))
         (one-fault _ 5 i 0 _ f)
@@ -239,7 +242,7 @@ module _ (s : List ℕ) where
       ∙ (fault-append (firstPass s) (secondPass R)
       ∙ rw (first-clean i k)
       (fault-each (recordChecks R) noRec 0 R why
-      (record { at = i; inside = k .inside; fails = rw zero-add e; earlier-clean = λ j m. rw zero-add (fits-clean R j (k .earlier j m)) })))
+      (record { at = i; inside = k .inside; fails = rw zero-add e; earlier-clean = λ j m. rw zero-add (fits-clean R j (cut-means s .whole j (omega (arith, k .inside)) .named) (k .earlier j m)) })))
 
   pub means-fault : (n p d : ℕ) → Fault s R rest n p d → firstFault (checks s) ≡ fault (refuse n p d)
   unfolding checks firstPass firstFault
@@ -259,10 +262,10 @@ module _ (s : List ℕ) where
       })))
   means-fault n p d (other-transferor i k t) = in-second i k (refuse 5 i 0) (rw (another R i t))
   means-fault n p d (repeats-a-key i j k t l c m) =
-      in-second i k (refuse 6 i j) (rw (transferor-same R (recordAt R i) t, clash-first R i j l c m, lt-ltb j i l))
+      in-second i k (refuse 6 i j) (rw (transferor-same R (recordAt R i) t, clash-first R i (cut-means s .whole i (k .inside) .named) j l c m, lt-ltb j i l))
   means-fault n p d (lacks-a-link i f k t c m) =
       let e = missing-link R (recordAt R i) f m in
-      in-second i k (refuse 7 i f) (rw (transferor-same R (recordAt R i) t, clash-none R (recordAt R i) i c, e .0, e .1))
+      in-second i k (refuse 7 i f) (rw (transferor-same R (recordAt R i) t, clash-none R (recordAt R i) (cut-means s .whole i (k .inside) .named) i c, e .0, e .1))
 
 -- A BUNDLE IS REFUSED with a number, a place and a detail only if it has that fault, and if it has.
 pub refused-fault : (s : List ℕ) (why : Refusal) → verdictOf s ≡ Refused why → Fault s (recordsOf s) (restOf s) (why .number) (why .place) (why .detail)

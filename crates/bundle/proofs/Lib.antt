@@ -3,6 +3,7 @@ pub mod Here
 pub mod PassLaws
 pub mod ChoiceLaws
 pub mod CutAndJoin
+pub mod KeyMeaning
 pub mod LinkMeaning
 pub mod Meaning
 pub mod Faults

@@ -12,21 +12,23 @@ use lib.ListN.{length}
 use borrow.Author.Tests.{lt-ltb, le-ltb, ltb-false, not-false}
 use Rattle.common.specs.Lists.{same}
 use Rattle.common.specs.Checks.{clean, firstFault, eachFrom}
-use Rattle.common.proofs.Tests.{never}
+use Rattle.common.proofs.Tests.{never, refuted}
 use Rattle.common.proofs.Least.{finds-none, none-finds}
 use Rattle.common.proofs.Lists.{same-is, is-same}
 use Rattle.common.proofs.Checks.{one-clean, clean-one, append-clean, clean-append, each-clean, clean-each}
+use Rattle.layout.specs.Layout.{tableCount}
 use Rattle.layout.specs.Fields.{transferorOf}
 use Rattle.layout.specs.Rules.{brokenField}
 use Rattle.layout.proofs.Tables.{unbroken-keeps}
 use Rattle.bundle.specs.Records.{Rec, noRec, recordsOf, restOf}
 use Rattle.bundle.specs.Keys.{otherTransferor, clash, earlierOf}
 use Rattle.bundle.specs.Verdict.{limit, fieldChecks, endChecks, firstPass, recordChecks, secondPass, checks, verdictOf}
-use Rattle.bundle.specs.Meaning.{joined, recordAt, KeepsRules, Good}
+use Rattle.bundle.specs.Meaning.{joined, recordAt, KeepsRules, SameKey, Good}
 use Rattle.bundle.specs.declared.Judgement.the-variants.{Accepted}
 use Rattle.bundle.proofs.Steps.{nothing-there}
 use Rattle.bundle.proofs.Here.{Over, unknown, short}
 use Rattle.bundle.proofs.PassLaws.{is-clean}
+use Rattle.bundle.proofs.KeyMeaning.{clash-means, means-clash}
 use Rattle.bundle.proofs.LinkMeaning.{links-there, there-links}
 use Rattle.bundle.proofs.CutAndJoin.{cut-joined, cut-over, cut-whole, joined-cut}
 
@@ -44,13 +46,13 @@ module _ (R : List Rec) (r : Rec) where
   unfolding otherTransferor
   transferor-same e = rw (is-same _ _ e)
 
-  pub no-clash : (i : ℕ) → ltb (earlierOf R i r) i ≡ false → (j : ℕ) → j < i → clash r (recordAt R j) ≡ false
+  pub no-clash : (i : ℕ) → ltb (earlierOf R i r) i ≡ false → (j : ℕ) → j < i → SameKey r (recordAt R j) → ⊥
   unfolding earlierOf
-  no-clash i e = finds-none (λ k. clash r (recordAt R k)) i e
+  no-clash i e j l k = never (means-clash r (recordAt R j) k) (finds-none (λ k. clash r (recordAt R k)) i e j l)
 
-  pub clash-none : (i : ℕ) → ((j : ℕ) → j < i → clash r (recordAt R j) ≡ false) → ltb (earlierOf R i r) i ≡ false
+  pub clash-none : r .table < tableCount → (i : ℕ) → ((j : ℕ) → j < i → SameKey r (recordAt R j) → ⊥) → ltb (earlierOf R i r) i ≡ false
   unfolding earlierOf
-  clash-none i f = none-finds (λ k. clash r (recordAt R k)) i f
+  clash-none h i f = none-finds (λ k. clash r (recordAt R k)) i (λ j l. refuted (clash r (recordAt R j)) (λ e. f j l (clash-means r (recordAt R j) h e)))
 
 -- THE END: nothing is left after the records
 pub nothing-left : (n : ℕ) (rest : List ℕ) → Over rest → firstFault (endChecks n rest) ≡ clean → rest ≡ []
@@ -121,7 +123,7 @@ module _ (s : List ℕ) (R : List Rec) (g : Good s R) where
   unfolding firstFault
   record-clean i l =
       let r = recordAt R i in
-      rw (transferor-same R r (g .transferors i l), clash-none R r i (λ j m. g .keys i j l m), there-links R r (g .linked i l))
+      rw (transferor-same R r (g .transferors i l), clash-none R r (g .whole i l .named) i (λ j m. g .keys i j l m), there-links R r (g .linked i l))
 
   first-clean : firstFault (firstPass s) ≡ clean
   unfolding firstPass firstFault

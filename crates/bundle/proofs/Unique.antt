@@ -25,6 +25,7 @@ use Rattle.bundle.specs.Keys.{clash}
 use Rattle.bundle.specs.Choice.{isKeyed, forLegs}
 use Rattle.bundle.specs.Chosen.{IsFor}
 use Rattle.bundle.specs.Meaning.{recordAt, KeepsRules, Good}
+use Rattle.bundle.proofs.KeyMeaning.{clash-means}
 
 field-long : (t f : ℕ) (a b : List ℕ) → length a ≡ length b → length (bytesOf t f a) ≡ length (bytesOf t f b)
 unfolding bytesOf
@@ -87,7 +88,7 @@ module _ (s : List ℕ) (R : List Rec) (g : Good s R) (t : ℕ) (legs : forLegs 
       let l = g .whole i m .long ∙ ap lengthOf (a .table ∙ sym (b .table)) ∙ sym (g .whole j n .long) in
       let d = both-true (ofOffers t) (every (isKeyed t) (tableAt t .key)) legs in
       ⊎-elim
-      (λ h. never (clashing t (d .0) offer code railway (recordAt R i) (recordAt R j) l a b (g .fields i m) (g .fields j n) (d .1)) (g .keys i j m h))
+      (λ h. absurd (g .keys i j m h (clash-means _ _ (g .whole i m .named) (clashing t (d .0) offer code railway (recordAt R i) (recordAt R j) l a b (g .fields i m) (g .fields j n) (d .1)))))
       (λ h. h) (side j i)
 
   -- In a good bundle there is one record at most of a table for an offer, a railway or 0000, and a code.

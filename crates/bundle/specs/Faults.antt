@@ -14,8 +14,7 @@ use Rattle.layout.specs.Fields.{byteOf, transferorOf}
 use Rattle.layout.specs.Rules.{keepsRow}
 use Rattle.layout.specs.declared.rows.Row.{Row}
 use Rattle.bundle.specs.Records.{Rec}
-use Rattle.bundle.specs.Keys.{clash}
-use Rattle.bundle.specs.Meaning.{joined, recordAt, IsRecord, KeepsRules, There, OfCode, OfOffer, Serves, Linked}
+use Rattle.bundle.specs.Meaning.{joined, recordAt, IsRecord, KeepsRules, SameKey, There, OfCode, OfOffer, Serves, Linked}
 
 -- BYTES THAT ARE NO RECORD: the mark of no table stands there; or that of one does, with too few bytes behind it
 abbrev pub NoMark : List ℕ → Type 0
@@ -54,7 +53,7 @@ abbrev pub OfOneTransferor : List Rec → ℕ → Type 0
 OfOneTransferor R i = transferorOf (recordAt R i .body) ≡ transferorOf (recordAt R 0 .body)
 
 abbrev pub OfNewKey : List Rec → ℕ → Type 0
-OfNewKey R i = (j : ℕ) → j < i → clash (recordAt R i) (recordAt R j) ≡ false
+OfNewKey R i = (j : ℕ) → j < i → SameKey (recordAt R i) (recordAt R j) → ⊥
 
 pub record Fits (R : List Rec) (i : ℕ) : Type 0 where
   pub of-one-transferor : OfOneTransferor R i
@@ -81,6 +80,6 @@ pub data Fault (s : List ℕ) (R : List Rec) (rest : List ℕ) : ℕ → ℕ →
   too-short : FirstLook s R (length R) → TooShort rest → Fault s R rest 3 (length R) 0
   breaks-a-field : (i f : ℕ) → FirstLook s R i → i < length R → Breaks (recordAt R i) f → Fault s R rest 4 i f
   other-transferor : (i : ℕ) → SecondLook s R i → (OfOneTransferor R i → ⊥) → Fault s R rest 5 i 0
-  repeats-a-key : (i j : ℕ) → SecondLook s R i → OfOneTransferor R i → j < i → clash (recordAt R i) (recordAt R j) ≡ true
-      → ((m : ℕ) → m < j → clash (recordAt R i) (recordAt R m) ≡ false) → Fault s R rest 6 i j
+  repeats-a-key : (i j : ℕ) → SecondLook s R i → OfOneTransferor R i → j < i → SameKey (recordAt R i) (recordAt R j)
+      → ((m : ℕ) → m < j → SameKey (recordAt R i) (recordAt R m) → ⊥) → Fault s R rest 6 i j
   lacks-a-link : (i d : ℕ) → SecondLook s R i → OfOneTransferor R i → OfNewKey R i → Missing R (recordAt R i) d → Fault s R rest 7 i d

@@ -2,7 +2,7 @@
 -- Assumes nothing.
 use Prim.Native.Nat.{ℕ, _≤_, _<_}
 use mathlib.Core.Path.{_≡_}
-use mathlib.Core.Bool.{true, false}
+use mathlib.Core.Bool.{true}
 use mathlib.Core.List.{List, [], _∷_, _++_}
 use mathlib.Core.Logic.{_⊎_}
 use lib.ListN.{length, getD}
@@ -11,7 +11,6 @@ use Rattle.layout.specs.Layout.{CO, RE, AR, ME, tableCount, tableAt, lengthOf}
 use Rattle.layout.specs.Fields.{bytesOf, byteOf, transferorOf}
 use Rattle.layout.specs.Rules.{keepsRules}
 use Rattle.bundle.specs.Records.{Rec, noRec}
-use Rattle.bundle.specs.Keys.{clash}
 
 -- the bytes of some records: each behind its mark, with nothing between them
 unfoldable pub joined : List Rec → List ℕ
@@ -29,6 +28,16 @@ pub record IsRecord (r : Rec) : Type 0 where
 -- each field keeps its rule
 abbrev pub KeepsRules : Rec → Type 0
 KeepsRules r = keepsRules (r .table) (r .body) ≡ true
+
+-- TWO RECORDS OF ONE KEY: "CO and ME: offer, railway; RE: code; AR: offer, railway, code", by the fields
+abbrev pub Alike : ℕ → ℕ → Rec → Rec → Type 0
+Alike t f r x = bytesOf t f (r .body) ≡ bytesOf t f (x .body)
+
+pub data SameKey (r x : Rec) : Type 0 where
+  both-co : r .table ≡ CO → x .table ≡ CO → Alike CO 2 r x → Alike CO 3 r x → SameKey r x
+  both-re : r .table ≡ RE → x .table ≡ RE → Alike RE 2 r x → SameKey r x
+  both-ar : r .table ≡ AR → x .table ≡ AR → Alike AR 2 r x → Alike AR 3 r x → Alike AR 4 r x → SameKey r x
+  both-me : r .table ≡ ME → x .table ≡ ME → Alike ME 2 r x → Alike ME 3 r x → SameKey r x
 
 -- one of the records is such
 abbrev pub There : List Rec → (Rec → Type 0) → Type 0
@@ -67,5 +76,5 @@ pub record Good (s : List ℕ) (R : List Rec) : Type 0 where
   pub whole : (i : ℕ) → i < length R → IsRecord (recordAt R i)
   pub fields : (i : ℕ) → i < length R → KeepsRules (recordAt R i)
   pub transferors : (i : ℕ) → i < length R → transferorOf (recordAt R i .body) ≡ transferorOf (recordAt R 0 .body)
-  pub keys : (i j : ℕ) → i < length R → j < i → clash (recordAt R i) (recordAt R j) ≡ false
+  pub keys : (i j : ℕ) → i < length R → j < i → SameKey (recordAt R i) (recordAt R j) → ⊥
   pub linked : (i : ℕ) → i < length R → Linked R (recordAt R i)

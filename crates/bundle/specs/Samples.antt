@@ -4,7 +4,7 @@ use Prim.Native.Nat.{ℕ, zero, suc, _+_, _/_, _%_}
 use mathlib.Core.List.{List, [], _∷_, _++_}
 use lib.ListN.{replicate}
 use Rattle.common.specs.Digits.{digit-0}
-use Rattle.layout.specs.Bytes.{byte-blank, byte-A, byte-C, byte-E, byte-N, byte-O, byte-R, byte-Y}
+use Rattle.layout.specs.Bytes.{byte-blank, byte-A, byte-C, byte-E, byte-M, byte-N, byte-O, byte-R, byte-Y}
 
 -- a number in so many digits
 unfoldable pub digits : ℕ → ℕ → List ℕ
@@ -30,9 +30,15 @@ conditions railway flag-33 granted =
     (byte-N ∷ byte-N ∷ flag-33 ∷ byte-N ∷ byte-N ∷ byte-N ∷ byte-N ∷ byte-N ∷
     (granted ++ year)))))))
 
--- the RE of card 7
-unfoldable pub cardName : List ℕ
-cardName = byte-R ∷ byte-E ∷ (digits 4 1185 ++ (digits 3 7 ++ (text 415 ++ year)))
+-- the RE of a card, and of card 7; an ME of a railway
+unfoldable pub named : ℕ → List ℕ
+named code = byte-R ∷ byte-E ∷ (digits 4 1185 ++ (digits 3 code ++ (text 415 ++ year)))
+
+abbrev pub cardName : List ℕ
+cardName = named 7
+
+unfoldable pub memo : ℕ → List ℕ
+memo railway = byte-M ∷ byte-E ∷ (digits 4 1185 ++ (digits 5 42 ++ (digits 4 railway ++ (text 1200 ++ year))))
 
 -- an AR of card 7 for all railways: discount, rounding, factor
 unfoldable pub card : ℕ → ℕ → ℕ → List ℕ

@@ -14,15 +14,15 @@ use Rattle.common.specs.Checks.{refuse}
 use Rattle.common.specs.declared.Refusal.{Refusal}
 use Rattle.common.proofs.Lists.{upto-same}
 use Rattle.layout.specs.Layout.{CO, AR, ME, tables, tableAt, tableCount, lengthOf}
-use Rattle.layout.specs.Fields.{bytesOf, ofOffers, transferorOf, offerOf, railwayOf}
-use Rattle.layout.specs.Rules.{keepsRules}
+use Rattle.layout.specs.Fields.{rowOf, bytesOf, ofOffers, transferorOf, offerOf, railwayOf}
+use Rattle.layout.specs.Rules.{keepsRow, keepsRules}
 use Rattle.layout.specs.Dates.{isDay}
 use Rattle.layout.specs.Calendar.{LeapYears, Months, RealDay}
 use Rattle.layout.specs.Values.{Field, values, Means, Readings, Railways}
 use Rattle.layout.specs.Figures as layout
 use Rattle.layout.proofs.Tables.{transferor-stands, offer-stands, railway-stands}
 use Rattle.layout.proofs.Calendar.{leap-years, months, a-day-is-real, real-is-a-day}
-use Rattle.layout.proofs.Values.{kept-by-its-values}
+use Rattle.layout.proofs.Values.{values-hold, kept-by-its-values}
 use Rattle.layout.proofs.Readings.{readings, railways}
 use Rattle.layout.proofs.Figures.{layout-figures-hold}
 use Rattle.bundle.specs.Records.{Rec, recordsOf, restOf}
@@ -98,7 +98,11 @@ pub the-first-fault-is-refused : (bundle : List ℕ) (R : List Rec) (rest : List
 unfolding verdictTells
 the-first-fault-is-refused bundle R rest c n p d f = rw (fault-refused bundle R rest c n p d f)
 
--- A RECORD keeps its rules exactly if each of its fields says what it may. What is read off it is what its bytes say.
+-- A FIELD keeps its rule exactly if it says what it may, and A RECORD keeps its rules exactly if each of its fields does. What is read off it is what its bytes say.
+pub a-field-keeps-its-rule-by-its-value : (p : Field) → List·Memᴰ p values → (body : List ℕ) → length body ≡ lengthOf (p .table)
+    → (keepsRow (p .table) body (rowOf (p .table) (p .field)) ≡ true) ↔ Means (p .table) (p .field) body (p .value)
+a-field-keeps-its-rule-by-its-value = values-hold
+
 pub a-record-keeps-its-rules-by-its-values : (t : ℕ) (body : List ℕ) → t < tableCount → length body ≡ lengthOf t
     → (keepsRules t body ≡ true) ↔ ((p : Field) → List·Memᴰ p values → p .table ≡ t → Means t (p .field) body (p .value))
 a-record-keeps-its-rules-by-its-values = kept-by-its-values
