@@ -1,2 +1,3 @@
 pub mod Replies
 pub mod ZeroNumber
+pub mod Figures

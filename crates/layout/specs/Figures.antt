@@ -99,7 +99,7 @@ figures =
     period ME 9 11 ∷
     months 2023 (31 ∷ 28 ∷ 31 ∷ 30 ∷ 31 ∷ 30 ∷ 31 ∷ 31 ∷ 30 ∷ 31 ∷ 30 ∷ 31 ∷ []) ∷
     months 2024 (31 ∷ 29 ∷ 31 ∷ 30 ∷ 31 ∷ 30 ∷ 31 ∷ 31 ∷ 30 ∷ 31 ∷ 30 ∷ 31 ∷ []) ∷
-    years 2000 400 146097 ∷
+    years 1600 400 146097 ∷
     letter byte-blank 32 ∷
     letter byte-plus 43 ∷
     letter byte-minus 45 ∷
