@@ -1,7 +1,7 @@
 -- For all, there is, the same, the sum: over any list.
 -- Assumes nothing.
 use Prim.Native.Nat.{ℕ, zero, suc, _+_, _-_}
-use mathlib.Core.Bool.{Bool, true, false, _&&_, _||_}
+use mathlib.Core.Bool.{Bool, true, false, cond, _&&_, _||_}
 use mathlib.Core.List.{List, [], _∷_, _++_}
 use lib.Dec.{eqb}
 use lib.ListN.{getD, drop}
@@ -22,6 +22,11 @@ same [] [] = true
 same [] (y ∷ ys) = false
 same (x ∷ xs) [] = false
 same (x ∷ xs) (y ∷ ys) = eqb x y && same xs ys
+
+-- the elements that pass
+unfoldable pub only : {A : Type 0} → (A → Bool) → List A → List A
+only p [] = []
+only p (x ∷ xs) = cond (p x) (x ∷ only p xs) (only p xs)
 
 -- the first n elements, d where the list has fewer
 unfoldable pub firstOf : {A : Type 0} → A → ℕ → List A → List A

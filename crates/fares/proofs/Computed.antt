@@ -3,7 +3,7 @@
 use mathlib.Core.Path.{refl}
 use mathlib.Core.List.{List·Memᴰ}
 use Rattle.common.specs.Least.{least}
-use Rattle.common.specs.Lists.{every, any, same, sum, firstOf}
+use Rattle.common.specs.Lists.{every, any, only, same, sum, firstOf}
 use Rattle.common.specs.Digits.{digitsAfter, numberOf}
 use Rattle.common.specs.Checks.{firstFault, eachFrom}
 use Rattle.common.proofs.Listed.{each}
@@ -18,7 +18,7 @@ use Rattle.bundle.specs.Links.{linkRows, isAsked, railwayServes, joins, serves,
 use Rattle.bundle.specs.Choice.{isOf, choiceOf}
 use Rattle.bundle.specs.Samples.{digits, year, conditions, named, card}
 use Rattle.bundle.specs.Verdict.{firstPass, secondPass, checks}
-use Rattle.fares.specs.Question.{inLimits}
+use Rattle.fares.specs.Question.{cardsInLimits, cardsDiffer, inLimits}
 use Rattle.fares.specs.Rounding.{rounded, upwards, downwards, nearest}
 use Rattle.fares.specs.Reductions.{reduceBy, reduceAll}
 use Rattle.fares.specs.Legs.{chosen, personsFit, unread, firstSet, partBy}
@@ -27,5 +27,5 @@ use Rattle.fares.specs.Figures.{Figure, Says, figures}
 
 -- THE FIGURES
 pub fare-figures-hold : (x : Figure) → List·Memᴰ x figures → Says x
-unfolding least every any same sum firstOf digitsAfter numberOf firstFault eachFrom isCompany isAllRailways isTransferor companyOf isRailway isDay monthLength monthLengths lengthOf endOf tableAt tables rowWith rowOf bytesOf byteOf numberIn isYes transferorOf offerOf railwayOf codeOf codeFits sameKey dayRow hasPeriod firstDay lastDay holdsDay grantIn numberOrBlank mostPersons factorRule firstDayRule lastDayRule ruled keptBeside keepsRow firstBroken brokenField tableOf stepOf recordsFrom restFrom recordsOf restOf otherTransferor clash earlierOf linkRows isAsked railwayServes joins serves missingLink isOf choiceOf firstPass secondPass checks inLimits rounded upwards downwards nearest reduceBy reduceAll chosen personsFit unread firstSet partBy partsOf priceChecks fareChecks fareOf digits year conditions named card
+unfolding least every any only same sum firstOf digitsAfter numberOf firstFault eachFrom isCompany isAllRailways isTransferor companyOf isRailway isDay monthLength monthLengths lengthOf endOf tableAt tables rowWith rowOf bytesOf byteOf numberIn isYes transferorOf offerOf railwayOf codeOf codeFits sameKey dayRow hasPeriod firstDay lastDay holdsDay grantIn numberOrBlank mostPersons factorRule firstDayRule lastDayRule ruled keptBeside keepsRow firstBroken brokenField tableOf stepOf recordsFrom restFrom recordsOf restOf otherTransferor clash earlierOf linkRows isAsked railwayServes joins serves missingLink isOf choiceOf firstPass secondPass checks cardsInLimits cardsDiffer inLimits rounded upwards downwards nearest reduceBy reduceAll chosen personsFit unread firstSet partBy partsOf priceChecks fareChecks fareOf digits year conditions named card
 fare-figures-hold = each Says figures (refl, (refl, (refl, (refl, (refl, (refl, (refl, (refl, (refl, (refl, (refl, (refl, (refl, (refl, (refl, (refl, (refl, (refl, (refl, (refl, (refl, (refl, (refl, (refl, tt))))))))))))))))))))))))

@@ -11,6 +11,7 @@ use types.Run.{OneOf}
 use denote.Enum.Declared.{tagOf}
 use Rattle.bundle.proofs.choice.Choice.{the-type}
 use Rattle.common.specs.Checks.{refuse, fault, firstFault}
+use Rattle.common.proofs.Lists.{first-length}
 use Rattle.layout.specs.Layout.{AR, tableAt, tables}
 use Rattle.layout.specs.Fields.{rowWith, rowOf, byteOf, isYes}
 use Rattle.layout.specs.declared.fields.Grant.{Grant}
@@ -21,12 +22,21 @@ use Rattle.bundle.specs.declared.choice.Choice.{Choice}
 use Rattle.bundle.specs.declared.choice.Choice.the-variants.{At, NotThatDay, Nothing}
 use Rattle.bundle.proofs.Here.{at-place}
 use Rattle.bundle.proofs.ChoiceLaws.{is-nothing, is-off-day, choice-inside}
+use Rattle.fares.specs.Question.{cardOf, cardSlots, cardsOf}
 use Rattle.fares.specs.Reductions.{conditionsGrant, cardGrants, reduceBy, reduceAll, partBound}
 use Rattle.fares.specs.Legs.{wantedFor, conditionsFor, found, bodies, bodyOf, cardCounts, cardFor, chosen, legChecks, stepsOf, partBy, partOf}
 use Rattle.fares.specs.Helpers.{bodiesAt, answerOf, answerBy}
 use Rattle.fares.specs.declared.Leg.{Leg}
 use Rattle.fares.specs.declared.Question.{Question}
-use Rattle.fares.proofs.StepLaws.{conditions-small, card-small, Granted, none, more, part-small}
+use Rattle.fares.proofs.StepLaws.{conditions-small, card-small, Granted, none, more, greater-is, bound-grows, part-small}
+use Rattle.fares.proofs.CardSlots.{few-given}
+
+-- four cards have the greatest bound
+abbrev pub mostBound : ℕ
+mostBound = partBound 4
+
+pub bound-most : (q : Question) → partBound (length (cardsOf q)) ≤ mostBound
+bound-most q = bound-grows (length (cardsOf q)) 4 (omega (arith, few-given (cardSlots q), first-length 0 4 (q .cards)))
 
 -- THE BOUND on a leg's part: a card has one step at most
 granted : (f : ℕ → List ℕ) (c : Choice) → let gs = map cardGrants (map f (found c)) in Granted gs × (length gs ≤ 1)
@@ -35,13 +45,14 @@ granted f NotThatDay = (none, omega arith)
 granted f Nothing = (none, omega arith)
 
 pub by-small : (q : Question) (leg : Leg) (co : List ℕ) (f : ℕ → List ℕ) (c : Choice) → leg .fare ≤ 999999 → q .persons ≤ 99
-    → partBy q leg co (map f (found c)) ≤ partBound
+    → partBy q leg co (map f (found c)) ≤ partBound (length (cardsOf q))
 unfolding partBy
 by-small q leg co f c hf hp =
     let g = granted f c in
-    part-small (leg .fare) (q .persons) (stepsOf co (map f (found c))) hf hp (more (conditions-small co) (g .0)) (omega arith)
+    let n = length (cardsOf q) in
+    part-small n (leg .fare) (q .persons) (stepsOf co (map f (found c))) hf hp (more (conditions-small co) (g .0)) (omega (arith, greater-is 1 n))
 
-pub leg-small : (R : List Rec) (q : Question) (leg : Leg) → leg .fare ≤ 999999 → q .persons ≤ 99 → partOf R q leg ≤ partBound
+pub leg-small : (R : List Rec) (q : Question) (leg : Leg) → leg .fare ≤ 999999 → q .persons ≤ 99 → partOf R q leg ≤ partBound (length (cardsOf q))
 leg-small R q leg = by-small q leg (bodyOf R (chosen R q leg .conditions)) (λ i. getD R i noRec .body) (chosen R q leg .card)
 
 -- the part by CO's step and then the card's
@@ -94,5 +105,5 @@ module _ (s : List ℕ) (q : Question) (leg : Leg) where
         → answerBy q k leg co (bodiesAt s card) ≡ answerOf R q k leg
     unfolding firstFault chosen answerOf answerBy
     by-places e f g =
-        let w = wantedFor AR (q .card) q leg in
+        let w = wantedFor AR (cardOf q) q leg in
         rw (f, g, same-bodies (cardCounts q (bodyOf R conditions)) (choiceOf R w) (choice-inside R w), e)

@@ -21,6 +21,7 @@ use Rattle.bundle.specs.Meaning.{recordAt, Good}
 use Rattle.bundle.specs.declared.choice.Choice.{Choice}
 use Rattle.bundle.specs.declared.choice.Choice.the-variants.{At, NotThatDay, Nothing}
 use Rattle.bundle.proofs.Chosen.{choice-means, chosen-only}
+use Rattle.fares.specs.Question.{cardOf}
 use Rattle.fares.specs.Reductions.{conditionsGrant, cardGrants, reduceBy, reduceAll}
 use Rattle.fares.specs.Rounding.{IsRounded}
 use Rattle.fares.specs.Legs.{wantedFor, conditionsFor, bodies, cardCounts, cardFor, chosen, mostOf, personsFit, unread, firstSet, conditionChecks, legChecks, partBy, partOf}
@@ -168,16 +169,16 @@ module _ (s : List ℕ) (R : List Rec) (g : Good s R) (q : Question) (leg : Leg)
   conditions-mean = choice-means s R g (wantedFor CO 0 q leg) conditions-legs
 
   abbrev cardChoice : Choice
-  cardChoice = choiceOf R (wantedFor AR (q .card) q leg)
+  cardChoice = choiceOf R (wantedFor AR (cardOf q) q leg)
 
-  card-mean : Chosen R AR (q .offer) (q .card) (leg .railway) (q .day) cardChoice
-  card-mean = choice-means s R g (wantedFor AR (q .card) q leg) card-legs
+  card-mean : Chosen R AR (q .offer) (cardOf q) (leg .railway) (q .day) cardChoice
+  card-mean = choice-means s R g (wantedFor AR (cardOf q) q leg) card-legs
 
   is-conditions : (c : Choice) → Chosen R CO (q .offer) 0 (leg .railway) (q .day) c → conditionsFor R q leg ≡ c
   is-conditions c m = chosen-only s R g CO conditions-legs (q .offer) 0 (leg .railway) (q .day) _ c conditions-mean m
 
-  is-card : (c : Choice) → Chosen R AR (q .offer) (q .card) (leg .railway) (q .day) c → cardChoice ≡ c
-  is-card c m = chosen-only s R g AR card-legs (q .offer) (q .card) (leg .railway) (q .day) _ c card-mean m
+  is-card : (c : Choice) → Chosen R AR (q .offer) (cardOf q) (leg .railway) (q .day) c → cardChoice ≡ c
+  is-card c m = chosen-only s R g AR card-legs (q .offer) (cardOf q) (leg .railway) (q .day) _ c card-mean m
 
   conditions-at : (i : ℕ) → IsConditions R q leg i → InForce CO 42 44 (recordAt R i .body) (q .day) → conditionsFor R q leg ≡ At i
   conditions-at i u f = is-conditions (At i) (used i u (from-force CO 42 44 conditions-days R (q .day) i f))
@@ -200,9 +201,9 @@ module _ (s : List ℕ) (R : List Rec) (g : Good s R) (q : Question) (leg : Leg)
 
     card-means : (before : ℕ) → (NoCard R q leg co × (after before ≡ before)) ⊎ CardCounts R q leg co before (after before)
     unfolding reduceAll
-    card-means before = rw allowed-is (go (eqb (byteOf CO 33 co) byte-Y) refl (eqb (q .card) 0) refl)
+    card-means before = rw allowed-is (go (eqb (byteOf CO 33 co) byte-Y) refl (eqb (cardOf q) 0) refl)
       where
-        by-choice : (c : Choice) → Chosen R AR (q .offer) (q .card) (leg .railway) (q .day) c → byteOf CO 33 co ≡ byte-Y → (q .card ≡ 0 → ⊥)
+        by-choice : (c : Choice) → Chosen R AR (q .offer) (cardOf q) (leg .railway) (q .day) c → byteOf CO 33 co ≡ byte-Y → (cardOf q ≡ 0 → ⊥)
             → let a = reduceAll before (map cardGrants (bodies R c)) in (NoCard R q leg co × (a ≡ before)) ⊎ CardCounts R q leg co before a
         by-choice c (used i u h) y z =
             inr (record {
@@ -216,7 +217,7 @@ module _ (s : List ℕ) (R : List Rec) (g : Good s R) (q : Question) (leg : Leg)
         by-choice c (not-that-day i u h) y z = inl (card-not-in-force i u (λ f. h (from-force AR 11 13 card-days R (q .day) i f)), refl)
         by-choice c (nothing a b) y z = inl (no-record a b, refl)
 
-        go : (y : Bool) → eqb (byteOf CO 33 co) byte-Y ≡ y → (z : Bool) → eqb (q .card) 0 ≡ z
+        go : (y : Bool) → eqb (byteOf CO 33 co) byte-Y ≡ y → (z : Bool) → eqb (cardOf q) 0 ≡ z
             → let a = reduceAll before (map cardGrants (bodies R (cond (y && not z) cardChoice Nothing))) in
             (NoCard R q leg co × (a ≡ before)) ⊎ CardCounts R q leg co before a
         go false y z e = inl (not-allowed (λ h. never (eq-eqb _ _ h) y), refl)

@@ -5,7 +5,9 @@ pub mod RoundLaws
 pub mod StepLaws
 pub mod LegLaws
 pub mod LegMeaning
+pub mod CardSlots
 pub mod QuestionLimits
 pub mod FareLaws
 pub mod PriceLaws
 pub mod Meaning
+pub mod OneCard

@@ -27,16 +27,17 @@ use Rattle.bundle.proofs.PassLaws.{is-clean}
 use Rattle.bundle.proofs.CutAndJoin.{cut-only}
 use Rattle.bundle.proofs.Meaning.{accepted-good, good-accepted, recut}
 use Rattle.bundle.proofs.Faults.{fault-means, means-fault}
-use Rattle.fares.specs.Question.{noLeg, legsOf, inLimits}
+use Rattle.fares.specs.Question.{noLeg, legsOf, cardSlots, cardsOf, cardsDiffer, inLimits}
 use Rattle.fares.specs.Reductions.{partBound}
 use Rattle.fares.specs.Legs.{legChecks, partOf}
 use Rattle.fares.specs.Fare.{partsOf, mostFare, priceChecks, fareChecks, noFare, priced, fareOf}
-use Rattle.fares.specs.Meaning.{legAt, InLimits, LegFare, IsFare, NoFare, faulty, outside-limits, at-leg}
+use Rattle.fares.specs.Meaning.{legAt, InLimits, CardsDiffer, LegFare, IsFare, NoFare, faulty, outside-limits, card-twice, at-leg}
 use Rattle.fares.specs.declared.Question.{Question}
 use Rattle.fares.specs.declared.Quote.{Quote}
 use Rattle.fares.specs.declared.Pricing.the-variants.{Priced}
-use Rattle.fares.proofs.LegLaws.{leg-small}
+use Rattle.fares.proofs.LegLaws.{mostBound, leg-small}
 use Rattle.fares.proofs.FareLaws.{asked, sum-of-parts}
+use Rattle.fares.proofs.CardSlots.{differ-means, means-differ}
 use Rattle.fares.proofs.QuestionLimits.{limits-mean, means-limits}
 use Rattle.fares.proofs.LegMeaning.{leg-means, means-turned, means-priced}
 
@@ -82,9 +83,9 @@ module _ (R : List Rec) (q : Question) where
       let a = asked q e in
       let L = legsOf q in
       let t : take (q .count) L ≡ L = take-all (q .count) L (omega (arith, as-many)) in
-      let b : sum (map (partOf R q) L) ≤ q .count * partBound = rw t at (sum-of-parts R q a (q .count) (omega (arith, as-many))) in
+      let b : sum (map (partOf R q) L) ≤ q .count * mostBound = rw t at (sum-of-parts R q a (q .count) (omega (arith, as-many))) in
       let p = sum-padded (map (partOf R q) L) (8 - q .count) in
-      le-ltb mostFare (sum (map (partOf R q) L ++ replicate (8 - q .count) 0)) (omega (arith, mul-le-mul-right partBound (a .few)))
+      le-ltb mostFare (sum (map (partOf R q) L ++ replicate (8 - q .count) 0)) (omega (arith, mul-le-mul-right mostBound (a .few)))
 
 module _ (s : List ℕ) (q : Question) where
   abbrev R : List Rec
@@ -100,6 +101,9 @@ module _ (s : List ℕ) (q : Question) where
   good-clean g = is-clean (firstFault (checks s)) (length R) (length R) (good-accepted s R g) .0
 
   -- then the question, the legs, and 16
+  abbrev cards : Check
+  cards = check (not (cardsDiffer (cardSlots q))) 17 0 0
+
   abbrev legFaults : List Check
   legFaults = eachFrom 0 (legChecks R q) (legsOf q)
 
@@ -120,13 +124,16 @@ module _ (s : List ℕ) (q : Question) where
     unfolding fareChecks
     passes = append-clean (checks s) (priceChecks R q) c
 
-    in-limits : (inLimits q ≡ true) × (firstFault (legFaults ++ last) ≡ clean)
+    in-limits : (inLimits q ≡ true) × (cardsDiffer (cardSlots q) ≡ true) × (firstFault (legFaults ++ last) ≡ clean)
     unfolding priceChecks
-    in-limits = let b = one-clean (not (inLimits q)) 11 0 0 (legFaults ++ last) (passes .1) in (not-false (inLimits q) (b .0), b .1)
+    in-limits =
+        let b = one-clean (not (inLimits q)) 11 0 0 (cards ∷ (legFaults ++ last)) (passes .1) in
+        let d = one-clean (not (cardsDiffer (cardSlots q))) 17 0 0 (legFaults ++ last) (b .1) in
+        (not-false (inLimits q) (b .0), not-false (cardsDiffer (cardSlots q)) (d .0), d .1)
 
     leg-priced : (k : ℕ) → k < q .count → LegFare R q (legAt q k) (getD (partsOf R q) k 0)
     leg-priced k l =
-        let e = each-clean (legChecks R q) noLeg 0 (legsOf q) (append-clean legFaults last (in-limits .1) .0) k (omega (arith, as-many R q)) in
+        let e = each-clean (legChecks R q) noLeg 0 (legsOf q) (append-clean legFaults last (in-limits .2) .0) k (omega (arith, as-many R q)) in
         let f : firstFault (legChecks R q (0 + k) (legAt q k)) ≡ clean = rw (leg-is R q k l) at e in
         rw (part-of-leg R q k l)
         (⊎-elim (λ h. h .1) (λ h. no-fault f (h .2)) (leg-means s R (clean-good (passes .0)) q (legAt q k) (0 + k)))
@@ -139,6 +146,7 @@ module _ (s : List ℕ) (q : Question) where
       rw (a .1, a .2) (record {
         good = clean-good (passes (a .0) .0);
         in-limits = l;
+        cards-differ = differ-means q (in-limits (a .0) .1);
         leg-by-leg = leg-priced (a .0);
         none-beyond = none-beyond R q;
         eight = eight-parts R q (l .count .1);
@@ -156,14 +164,14 @@ module _ (s : List ℕ) (q : Question) where
   abbrev Told : Refusal → Type 0
   Told why = NoFare s R (restOf s) q (why .number) (why .place) (why .detail)
 
-  by-leg : Good s R → InLimits q → (why : Refusal) → firstFault legFaults ≡ fault why → Told why
-  by-leg g l why e =
+  by-leg : Good s R → InLimits q → CardsDiffer q → (why : Refusal) → firstFault legFaults ≡ fault why → Told why
+  by-leg g l d why e =
       let h = each-fault (legChecks R q) noLeg 0 (legsOf q) why e in
       let k = h .at in
       let m : k < q .count = omega (arith, h .inside, as-many R q) in
       let f : firstFault (legChecks R q (0 + k) (legAt q k)) ≡ fault why = rw (leg-is R q k m) at (h .fails) in
       ⊎-elim (λ c. no-fault (c .0) f)
-      (λ c. let i : refuse (c .0) (0 + k) (c .1) ≡ why = same-fault (sym (c .2) ∙ f) in rw (← i, zero-add) (at-leg g l k m (earlier k m (h .earlier-clean)) (c .3)))
+      (λ c. let i : refuse (c .0) (0 + k) (c .1) ≡ why = same-fault (sym (c .2) ∙ f) in rw (← i, zero-add) (at-leg g l d k m (earlier k m (h .earlier-clean)) (c .3)))
       (leg-means s R g q (legAt q k) (0 + k))
     where
       same-fault : {x y : Refusal} → fault x ≡ fault y → x ≡ y
@@ -175,13 +183,19 @@ module _ (s : List ℕ) (q : Question) where
           let f : firstFault (legChecks R q (0 + j) (legAt q j)) ≡ clean = rw (leg-is R q j (omega arith)) at (h j l) in
           ⊎-elim (λ c. (partOf R q (legAt q j), c .1)) (λ c. no-fault f (c .2)) (leg-means s R g q (legAt q j) (0 + j))
 
+  by-cards : Good s R → inLimits q ≡ true → (why : Refusal) → firstFault (cards ∷ (legFaults ++ last)) ≡ fault why → Told why
+  by-cards g t why e =
+      ⊎-elim (λ b. rw (← b .1) (card-twice g (limits-mean q t) (λ d. never (means-differ q d) (not-true (cardsDiffer (cardSlots q)) (b .0)))))
+      (λ b. let d = differ-means q (not-false (cardsDiffer (cardSlots q)) (b .0)) in
+      ⊎-elim (λ f. by-leg g (limits-mean q t) d why f) (λ f. never (last-fault _ 16 0 0 (f .1) .0) (never-sixteen R q t)) (append-fault legFaults last (b .1)))
+      (one-fault (not (cardsDiffer (cardSlots q))) 17 0 0 (legFaults ++ last) e)
+
   by-price : Good s R → (why : Refusal) → firstFault (priceChecks R q) ≡ fault why → Told why
   unfolding priceChecks
   by-price g why e =
       ⊎-elim (λ b. rw (← b .1) (outside-limits g (λ l. never (means-limits q l) (not-true (inLimits q) (b .0)))))
-      (λ b. let t = not-false (inLimits q) (b .0) in
-      ⊎-elim (λ f. by-leg g (limits-mean q t) why f) (λ f. never (last-fault _ 16 0 0 (f .1) .0) (never-sixteen R q t)) (append-fault legFaults last (b .1)))
-      (one-fault (not (inLimits q)) 11 0 0 (legFaults ++ last) e)
+      (λ b. by-cards g (not-false (inLimits q) (b .0)) why (b .1))
+      (one-fault (not (inLimits q)) 11 0 0 (cards ∷ (legFaults ++ last)) e)
 
   -- with what that means;
   pub no-fare-means : (why : Refusal) → fareOf s q ≡ noFare why → Told why
@@ -206,18 +220,19 @@ module _ (s : List ℕ) (q : Question) where
   unfolding firstFault
   nothing-fails = refl
 
-  all-clean : Good s R → InLimits q → ((k : ℕ) → k < q .count → (part : ℕ) × LegFare R q (legAt q k) part) → firstFault (fareChecks s q) ≡ clean
+  all-clean : Good s R → InLimits q → CardsDiffer q → ((k : ℕ) → k < q .count → (part : ℕ) × LegFare R q (legAt q k) part) → firstFault (fareChecks s q) ≡ clean
   unfolding fareChecks priceChecks
-  all-clean g l h =
+  all-clean g l d h =
       clean-append (checks s) (priceChecks R q) (good-clean g)
-      (clean-one (not (inLimits q)) 11 0 0 (legFaults ++ last) (rw (means-limits q l))
+      (clean-one (not (inLimits q)) 11 0 0 (cards ∷ (legFaults ++ last)) (rw (means-limits q l))
+      (clean-one (not (cardsDiffer (cardSlots q))) 17 0 0 (legFaults ++ last) (rw (means-differ q d))
       (clean-append legFaults last
       (clean-each (legChecks R q) noLeg 0 (legsOf q) (λ k m. legs-clean g (q .count) (omega arith) h k (omega (arith, as-many R q))))
-      (clean-one _ 16 0 0 [] (never-sixteen R q (means-limits q l)) nothing-fails)))
+      (clean-one _ 16 0 0 [] (never-sixteen R q (means-limits q l)) nothing-fails))))
 
   answered-by : (fare : ℕ) (parts : List ℕ) → IsFare s R q fare parts → fareOf s q ≡ record { outcome = Priced; fare = fare; parts = parts }
   answered-by fare parts f =
-      let c = all-clean (f .good) (f .in-limits) (λ k l. (getD parts k 0, f .leg-by-leg k l)) in
+      let c = all-clean (f .good) (f .in-limits) (f .cards-differ) (λ k l. (getD parts k 0, f .leg-by-leg k l)) in
       let eight = eight-parts R q (f .in-limits .count .1) in
       let same : parts ≡ partsOf R q = ext-getD 0 parts (partsOf R q) (f .eight ∙ sym eight) (λ k l. part-alike f k) in
       clean-priced c ∙ (λ j. record { outcome = Priced; fare = sym (f .summed ∙ ap sum same) j; parts = sym same j })
@@ -233,10 +248,13 @@ module _ (s : List ℕ) (q : Question) where
   refused-by n p d (outside-limits g l) =
       fault-refused (refuse 11 0 0)
       (fault-append (checks s) (priceChecks R q) ∙ rw (good-clean g, refuted (inLimits q) (λ e. l (limits-mean q e))))
-  refused-by n p d (at-leg g l k m h {d = f} t) =
+  refused-by n p d (card-twice g l c) =
+      fault-refused (refuse 17 0 0)
+      (fault-append (checks s) (priceChecks R q) ∙ rw (good-clean g, means-limits q l, refuted (cardsDiffer (cardSlots q)) (λ e. c (differ-means q e))))
+  refused-by n p d (at-leg g l c k m h {d = f} t) =
       fault-refused (refuse n k f)
       (fault-append (checks s) (priceChecks R q)
-      ∙ rw (good-clean g, means-limits q l)
+      ∙ rw (good-clean g, means-limits q l, means-differ q c)
       (fault-append legFaults last
       ∙ rw (fault-each (legChecks R q) noLeg 0 (legsOf q) (refuse n k f)
       (record {
@@ -255,7 +273,7 @@ pub means-no-fare : (s : List ℕ) (R : List Rec) (rest : List ℕ) → Cut s R 
 means-no-fare s R rest c q n p d f = let e = cut-only s R rest c in refused-by s q n p d (rw (e .0, e .1) f)
 
 -- NO PART of a fare is above the bound
-pub part-bounded : (s : List ℕ) (R : List Rec) (q : Question) (fare : ℕ) (parts : List ℕ) → IsFare s R q fare parts → (k : ℕ) → getD parts k 0 ≤ partBound
+pub part-bounded : (s : List ℕ) (R : List Rec) (q : Question) (fare : ℕ) (parts : List ℕ) → IsFare s R q fare parts → (k : ℕ) → getD parts k 0 ≤ partBound (length (cardsOf q))
 part-bounded s R q fare parts f k =
     ⊎-elim
     (λ l. rw (means-priced s R (f .good) q (legAt q k) k _ (f .leg-by-leg k l) .1) (leg-small R q (legAt q k) (f .in-limits .legs k l .fare) (f .in-limits .persons .1)))

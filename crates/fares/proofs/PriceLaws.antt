@@ -18,8 +18,7 @@ use Rattle.common.proofs.Lists.{first-length, first-at}
 use Rattle.common.proofs.Checks.{by-finding, as-found, orElse, each-step, each-end}
 use Rattle.common.proofs.Sums.{sum-padded, sum-next, fill-next}
 use Rattle.bundle.specs.Records.{Rec}
-use Rattle.fares.specs.Question.{noLeg, legsOf, inLimits}
-use Rattle.fares.specs.Reductions.{partBound}
+use Rattle.fares.specs.Question.{noLeg, legsOf, cardSlots, cardsDiffer, inLimits}
 use Rattle.fares.specs.Legs.{legChecks, partOf}
 use Rattle.fares.specs.Fare.{partsOf, mostFare, priceChecks, noFare}
 use Rattle.fares.specs.Helpers.{answered, answerOf, priceOf}
@@ -27,6 +26,7 @@ use Rattle.fares.specs.declared.Leg.{Leg}
 use Rattle.fares.specs.declared.Question.{Question}
 use Rattle.fares.specs.declared.Pricing.the-variants.{Priced}
 use Rattle.fares.specs.declared.legs.Priced.the-variants.{Part, Refused}
+use Rattle.fares.proofs.LegLaws.{mostBound}
 use Rattle.fares.proofs.FareLaws.{asked, sum-of-parts}
 
 -- an answer tells what was found
@@ -46,6 +46,10 @@ module _ (R : List Rec) (q : Question) where
   unfolding priceChecks firstFault
   limits-fail e = no-fare (rw e)
 
+  pub cards-fail : {x : Refusal} → inLimits q ≡ true → cardsDiffer (cardSlots q) ≡ false → x ≡ refuse 17 0 0 → noFare x ≡ priceOf R q
+  unfolding priceChecks firstFault
+  cards-fail e f = no-fare (rw (e, f))
+
   lastCheck : List Check
   lastCheck = check (ltb mostFare (sum (partsOf R q))) 16 0 0 ∷ []
 
@@ -60,20 +64,20 @@ module _ (R : List Rec) (q : Question) where
     pub summed : fare ≡ sum (map (partOf R q) (take k (legsOf q)))
     pub yet : firstFault (priceChecks R q) ≡ left k
 
-  module _ (e : inLimits q ≡ true) where
+  module _ (e : inLimits q ≡ true) (d : cardsDiffer (cardSlots q) ≡ true) where
     pub before-first : Before 0 (replicate 8 0) 0
     unfolding priceChecks firstFault left lastCheck sum
-    before-first = record { inside = omega arith; filled = refl; summed = refl; yet = rw e }
+    before-first = record { inside = omega arith; filled = refl; summed = refl; yet = rw (e, d) }
 
     as-many : length (legsOf q) ≡ q .count
     as-many = first-length noLeg (q .count) (q .legs)
 
     module _ {k : ℕ} {parts : List ℕ} {fare : ℕ} (b : Before k parts fare) where
-      pub fare-small : fare ≤ 8 * partBound
+      pub fare-small : fare ≤ 8 * mostBound
       fare-small =
           let i = b .inside in
           let h : k ≤ 8 = omega (arith, asked q e .few) in
-          omega (arith, b .summed, sum-of-parts R q (asked q e) k (omega (arith, as-many)), mul-le-mul-right partBound h)
+          omega (arith, b .summed, sum-of-parts R q (asked q e) k (omega (arith, as-many)), mul-le-mul-right mostBound h)
 
       -- one leg more: it is refused, or its part is the next
       module _ (l : k < q .count) where

@@ -16,6 +16,7 @@ use Rattle.fares.specs.Question.{between, legInLimits, noLeg, legsOf, li
 use Rattle.fares.specs.Meaning.{LegInLimits, legAt, InLimits}
 use Rattle.fares.specs.declared.Leg.{Leg}
 use Rattle.fares.specs.declared.Question.{Question}
+use Rattle.fares.proofs.CardSlots.{slots-mean, means-slots}
 
 is-between : (lowest v highest : ℕ) → (lowest ≤ v) × (v ≤ highest) → between lowest highest v ≡ true
 is-between lowest v highest h = rw (le-leb lowest v (h .0), le-leb v highest (h .1))
@@ -45,7 +46,8 @@ module _ (q : Question) where
         offer = in-range 1 (q .offer) 99999 (t 0 (omega arith));
         day = a-day-is-real (q .day) (t 1 (omega arith));
         persons = in-range 1 (q .persons) 99 (t 2 (omega arith));
-        card = in-range 0 (q .card) 999 (t 3 (omega arith)) .1;
+        cards = slots-mean q (t 3 (omega arith)) .0;
+        used-first = slots-mean q (t 3 (omega arith)) .1;
         count = in-range 1 (q .count) 8 (t 4 (omega arith));
         legs = λ k l. leg-means (legAt q k) (rw (leg-is k l) at (every-at legInLimits (legsOf q) (t 5 (omega arith)) k noLeg (omega (arith, count-is))));
       }
@@ -60,7 +62,7 @@ module _ (q : Question) where
         is-between 1 (q .offer) 99999 (h .offer),
         real-is-a-day (q .day) (h .day),
         is-between 1 (q .persons) 99 (h .persons),
-        is-between 0 (q .card) 999 (omega arith, h .card),
+        means-slots q (h .cards) (h .used-first),
         is-between 1 (q .count) 8 (h .count),
         legs,
       )

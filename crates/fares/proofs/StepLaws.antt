@@ -2,16 +2,19 @@
 -- Assumes nothing.
 use Prim.Native.Nat.{ℕ, _+_, _-_, _*_, _≤_}
 use mathlib.Core.Path.{_≡_, refl}
+use mathlib.Core.Bool.{Bool, true, false, cond}
 use mathlib.Core.List.{List, [], _∷_}
 use native.Mathlib.Nat.{mul-le-mul, mul-le-mul-left, le-trans, le-refl}
 use native.Mathlib.Omega.{arith}
+use lib.Dec.{leb}
 use lib.ListN.{length, length-take}
+use borrow.Author.Tests.{leb-true, leb-false}
 use Rattle.common.proofs.Digits.{number-small}
 use Rattle.layout.specs.Layout.{CO, AR, tableAt, tables}
 use Rattle.layout.specs.Fields.{rowWith, rowOf, bytesOf, numberIn, grantIn}
 use Rattle.layout.specs.declared.fields.Grant.{Grant}
 use Rattle.fares.specs.Rounding.{unit}
-use Rattle.fares.specs.Reductions.{conditionsGrant, cardGrants, reduceBy, reduceAll, steps, partBound}
+use Rattle.fares.specs.Reductions.{conditionsGrant, cardGrants, reduceBy, reduceAll, greater, stepsFor, partBound}
 use Rattle.fares.proofs.RoundLaws.{rounded-small, rounded-mono}
 
 -- a factor of three digits is at most 999, which those of CO and AR are
@@ -78,9 +81,30 @@ all-anti rs qs none a = le-refl a
 all-anti rs qs (more {d} {e} r {rs = rs′} {qs = qs′} h g) a =
     le-trans (all-mono rs′ (reduceBy a (granting e r)) (reduceBy a (granting d r)) (step-anti a d e r h)) (all-anti rs′ qs′ g (reduceBy a (granting d r)))
 
--- THE BOUND on a part: at most 99 persons, each with at most `steps` steps from at most 999,999 cents
-pub part-small : (fare persons : ℕ) (rs : List Grant) → fare ≤ 999999 → persons ≤ 99 → Granted rs → length rs ≤ steps
-    → reduceAll fare rs * persons ≤ partBound
-part-small fare persons rs hf hp g l =
-    let a : reduceAll fare rs ≤ 999999 + 998 * steps = omega (arith, all-small rs g fare) in
-    omega (arith, mul-le-mul a hp)
+-- the greater of two
+pub greater-is : (a b : ℕ) → (a ≤ greater a b) × (b ≤ greater a b)
+greater-is a b = go (leb a b) refl
+  where
+    go : (t : Bool) → leb a b ≡ t → (a ≤ cond t b a) × (b ≤ cond t b a)
+    go true e = (leb-true a b e, le-refl b)
+    go false e = (le-refl a, omega (arith, leb-false a b e))
+
+-- the bound grows with the cards
+pub bound-grows : (a b : ℕ) → a ≤ b → partBound a ≤ partBound b
+bound-grows a b l = go (leb 1 a) refl (leb 1 b) refl
+  where
+    go : (s : Bool) → leb 1 a ≡ s → (t : Bool) → leb 1 b ≡ t → 99 * (999999 + 998 * (1 + cond s a 1)) ≤ 99 * (999999 + 998 * (1 + cond t b 1))
+    go true e true f = omega arith
+    go false e true f = omega (arith, leb-true 1 b f)
+    go true e false f = omega (arith, leb-true 1 a e, leb-false 1 b f)
+    go false e false f = omega arith
+
+-- THE BOUND on a part: at most 99 persons, each with the steps of so many cards from at most 999,999 cents
+pub part-small : (cards fare persons : ℕ) (rs : List Grant) → fare ≤ 999999 → persons ≤ 99 → Granted rs → length rs ≤ stepsFor cards
+    → reduceAll fare rs * persons ≤ partBound cards
+part-small cards fare persons rs hf hp g l =
+    let a : reduceAll fare rs ≤ 999999 + 998 * stepsFor cards = omega (arith, all-small rs g fare) in
+    mul-le-mul-comm cards (reduceAll fare rs) persons a hp
+  where
+    mul-le-mul-comm : (cards x persons : ℕ) → x ≤ 999999 + 998 * stepsFor cards → persons ≤ 99 → x * persons ≤ 99 * (999999 + 998 * stepsFor cards)
+    mul-le-mul-comm cards x persons a hp = omega (arith, mul-le-mul a hp)

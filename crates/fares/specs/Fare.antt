@@ -10,7 +10,7 @@ use Rattle.common.specs.Checks.{Finding, Check, check, unless, firstFault, each
 use Rattle.common.specs.declared.Refusal.{Refusal}
 use Rattle.bundle.specs.Records.{Rec, recordsOf}
 use Rattle.bundle.specs.Verdict.{checks}
-use Rattle.fares.specs.Question.{legsOf, inLimits}
+use Rattle.fares.specs.Question.{legsOf, cardSlots, cardsDiffer, inLimits}
 use Rattle.fares.specs.Legs.{legChecks, partOf}
 use Rattle.fares.specs.declared.Question.{Question}
 use Rattle.fares.specs.declared.Quote.{Quote}
@@ -24,13 +24,14 @@ partsOf R q = map (partOf R q) (legsOf q) ++ replicate (8 - q .count) 0
 abbrev pub mostFare : ℕ
 mostFare = 4294967295
 
--- 11, then the legs from the first, each for 12, 13, 14, 15, last 16
+-- 11, 17, then the legs from the first, each for 12, 13, 14, 15, last 16
 unfoldable pub priceChecks : List Rec → Question → List Check
 priceChecks R q =
     check (not (inLimits q)) 11 0 0 ∷
+    check (not (cardsDiffer (cardSlots q))) 17 0 0 ∷
     (eachFrom 0 (legChecks R q) (legsOf q) ++ (check (ltb mostFare (sum (partsOf R q))) 16 0 0 ∷ []))
 
--- "A fare may also be asked without a book: verdict, 11, 12 to 15, 16."
+-- "A fare may also be asked without a book: verdict, 11, 12 to 15, 16", with "17, a card given twice, directly after 11"
 unfoldable pub fareChecks : List ℕ → Question → List Check
 fareChecks s q = checks s ++ priceChecks (recordsOf s) q
 

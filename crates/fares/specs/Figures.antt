@@ -30,7 +30,7 @@ Says (no-day d) = isDay d ≡ false
 
 -- one person on one leg, by one CO for all railways: plain fare, discount, rounding, factor, and the fare
 abbrev pub alone : ℕ → ℕ → ℕ → ℕ → ℕ → Figure
-alone fare discount rounding factor cents = asked (conditions 0 byte-N (grant discount rounding factor)) (ticket 1 0 1 (leg 1185 fare ∷ [])) cents (cents ∷ [])
+alone fare discount rounding factor cents = asked (conditions 0 byte-N (grant discount rounding factor)) (ticket 1 [] 1 (leg 1185 fare ∷ [])) cents (cents ∷ [])
 
 abbrev pub figures : List Figure
 figures =
@@ -49,15 +49,15 @@ figures =
     alone 999999 100000 byte-N 0 0 ∷
     alone 999999 0 byte-plus 998 1000994 ∷
     -- with a card of 30 % on top, N in both records; and under factor 50, which tells the order of the two
-    asked (conditions 0 byte-Y (grant 25000 byte-N 0) ++ (cardName ++ card 30000 byte-N 0)) (ticket 1 7 1 (leg 1185 1010 ∷ [])) 531 (531 ∷ []) ∷
-    asked (conditions 0 byte-Y (grant 25000 byte-plus 50) ++ (cardName ++ card 30000 byte-N 0)) (ticket 1 7 1 (leg 1185 1010 ∷ [])) 560 (560 ∷ []) ∷
+    asked (conditions 0 byte-Y (grant 25000 byte-N 0) ++ (cardName ++ card 30000 byte-N 0)) (ticket 1 (7 ∷ []) 1 (leg 1185 1010 ∷ [])) 531 (531 ∷ []) ∷
+    asked (conditions 0 byte-Y (grant 25000 byte-plus 50) ++ (cardName ++ card 30000 byte-N 0)) (ticket 1 (7 ∷ []) 1 (leg 1185 1010 ∷ [])) 560 (560 ∷ []) ∷
     -- without a card nothing is rounded but by the CO
-    asked (conditions 0 byte-Y (grant 25000 byte-N 0) ++ (cardName ++ card 30000 byte-N 0)) (ticket 1 0 1 (leg 1185 1010 ∷ [])) 758 (758 ∷ []) ∷
+    asked (conditions 0 byte-Y (grant 25000 byte-N 0) ++ (cardName ++ card 30000 byte-N 0)) (ticket 1 [] 1 (leg 1185 1010 ∷ [])) 758 (758 ∷ []) ∷
     -- three persons
-    asked (conditions 0 byte-N (grant 25000 byte-N 0)) (ticket 3 0 1 (leg 1185 1010 ∷ [])) 2274 (2274 ∷ []) ∷
+    asked (conditions 0 byte-N (grant 25000 byte-N 0)) (ticket 3 [] 1 (leg 1185 1010 ∷ [])) 2274 (2274 ∷ []) ∷
     -- two railways, one with a CO of its own beside that of 0000, which is a default only
-    asked (conditions 1185 byte-N (grant 25000 byte-N 0) ++ conditions 0 byte-N (grant 0 byte-N 0)) (ticket 3 0 2 (leg 1185 1010 ∷ leg 1181 500 ∷ [])) 3774 (2274 ∷ 1500 ∷ []) ∷
-    asked (conditions 1185 byte-N (grant 25000 byte-N 0) ++ conditions 0 byte-N (grant 50000 byte-N 0)) (ticket 1 0 1 (leg 1185 1010 ∷ [])) 758 (758 ∷ []) ∷
+    asked (conditions 1185 byte-N (grant 25000 byte-N 0) ++ conditions 0 byte-N (grant 0 byte-N 0)) (ticket 3 [] 2 (leg 1185 1010 ∷ leg 1181 500 ∷ [])) 3774 (2274 ∷ 1500 ∷ []) ∷
+    asked (conditions 1185 byte-N (grant 25000 byte-N 0) ++ conditions 0 byte-N (grant 50000 byte-N 0)) (ticket 1 [] 1 (leg 1185 1010 ∷ [])) 758 (758 ∷ []) ∷
     day 20240229 ∷
     day 20000229 ∷
     no-day 20230229 ∷

@@ -14,6 +14,7 @@ use Rattle.bundle.specs.Choice.{choiceOf}
 use Rattle.bundle.specs.declared.choice.Wanted.{Wanted}
 use Rattle.bundle.specs.declared.choice.Choice.{Choice}
 use Rattle.bundle.specs.declared.choice.Choice.the-variants.{At, NotThatDay, Nothing}
+use Rattle.fares.specs.Question.{cardOf}
 use Rattle.fares.specs.Reductions.{conditionsGrant, cardGrants, reduceAll}
 use Rattle.fares.specs.declared.Leg.{Leg}
 use Rattle.fares.specs.declared.Question.{Question}
@@ -41,10 +42,10 @@ bodyOf R c = getD (bodies R c) 0 []
 
 -- "Then, if its flag 33 is Y and a card is given, the offer's AR record of that railway and code, or else the one of 0000."
 abbrev pub cardCounts : Question → List ℕ → Bool
-cardCounts q co = isYes CO 33 co && not (eqb (q .card) 0)
+cardCounts q co = isYes CO 33 co && not (eqb (cardOf q) 0)
 
 abbrev pub cardFor : List Rec → Question → Leg → List ℕ → Choice
-cardFor R q leg co = cond (cardCounts q co) (choiceOf R (wantedFor AR (q .card) q leg)) Nothing
+cardFor R q leg co = cond (cardCounts q co) (choiceOf R (wantedFor AR (cardOf q) q leg)) Nothing
 
 -- the records of a leg, by their numbers
 unfoldable pub chosen : List Rec → Question → Leg → LegRecords

@@ -4,6 +4,7 @@ pub mod Reductions
 pub mod Legs
 pub mod Fare
 pub mod Meaning
+pub mod OneCard
 pub mod Samples
 pub mod Figures
 pub mod Helpers

@@ -17,13 +17,13 @@ use Rattle.bundle.specs.Records.{Rec}
 use Rattle.bundle.specs.Chosen.{NoneFor, Uses}
 use Rattle.bundle.specs.Faults.{Fault}
 use Rattle.bundle.specs.Meaning.{recordAt, Good}
-use Rattle.fares.specs.Question.{noLeg}
+use Rattle.fares.specs.Question.{noLeg, cardOf}
 use Rattle.fares.specs.Rounding.{IsRounded}
 use Rattle.fares.specs.declared.Leg.{Leg}
 use Rattle.fares.specs.declared.Question.{Question}
 
 -- THE LIMITS OF A QUESTION: "an offer 1-99,999, a real date as day, persons 1-99, a card 0-999 (0 = none), and one to eight legs, each with a railway
--- 1-9999 and a plain fare per person of 0-999,999 cents"
+-- 1-9999 and a plain fare per person of 0-999,999 cents"; of its four slots for cards those that are used stand first
 pub record LegInLimits (leg : Leg) : Type 0 where
   pub railway : (1 ≤ leg .railway) × (leg .railway ≤ 9999)
   pub fare : leg .fare ≤ 999999
@@ -31,13 +31,21 @@ pub record LegInLimits (leg : Leg) : Type 0 where
 abbrev pub legAt : Question → ℕ → Leg
 legAt q k = getD (q .legs) k noLeg
 
+abbrev pub cardAt : Question → ℕ → ℕ
+cardAt q k = getD (q .cards) k 0
+
 pub record InLimits (q : Question) : Type 0 where
   pub offer : (1 ≤ q .offer) × (q .offer ≤ 99999)
   pub day : RealDay (q .day)
   pub persons : (1 ≤ q .persons) × (q .persons ≤ 99)
-  pub card : q .card ≤ 999
+  pub cards : (k : ℕ) → k < 4 → cardAt q k ≤ 999
+  pub used-first : (j k : ℕ) → j < k → k < 4 → cardAt q j ≡ 0 → cardAt q k ≡ 0
   pub count : (1 ≤ q .count) × (q .count ≤ 8)
   pub legs : (k : ℕ) → k < q .count → LegInLimits (legAt q k)
+
+-- NO CARD IS GIVEN TWICE: slots that have the same are not used
+abbrev pub CardsDiffer : Question → Type 0
+CardsDiffer q = (j k : ℕ) → j < k → k < 4 → cardAt q j ≡ cardAt q k → cardAt q j ≡ 0
 
 -- A RECORD IN FORCE: the day is not before its first day's field, and not after its last day's
 abbrev pub InForce : ℕ → ℕ → ℕ → List ℕ → ℕ → Type 0
@@ -76,18 +84,18 @@ module _ (R : List Rec) (q : Question) (leg : Leg) where
 
   -- "the offer's AR record of that railway and code, or else the one of 0000"
   abbrev pub IsCard : ℕ → Type 0
-  IsCard i = Uses R AR (q .offer) (q .card) (leg .railway) i
+  IsCard i = Uses R AR (q .offer) (cardOf q) (leg .railway) i
 
   -- NO CARD COUNTS: none is given, or flag 33 is not Y, or there is no such AR, or the day lies outside it
   pub data NoCard (co : List ℕ) : Type 0 where
-    none-given : q .card ≡ 0 → NoCard co
+    none-given : cardOf q ≡ 0 → NoCard co
     not-allowed : (byteOf CO 33 co ≡ byte-Y → ⊥) → NoCard co
-    no-record : NoneFor R AR (q .offer) (q .card) (leg .railway) → NoneFor R AR (q .offer) (q .card) 0 → NoCard co
+    no-record : NoneFor R AR (q .offer) (cardOf q) (leg .railway) → NoneFor R AR (q .offer) (cardOf q) 0 → NoCard co
     not-in-force : (i : ℕ) → IsCard i → (InForce AR 11 13 (recordAt R i .body) (q .day) → ⊥) → NoCard co
 
   -- A CARD COUNTS: "the same is done to that rounded amount" by its AR
   pub record CardCounts (co : List ℕ) (before after : ℕ) : Type 0 where
-    pub given : q .card ≡ 0 → ⊥
+    pub given : cardOf q ≡ 0 → ⊥
     pub allowed : byteOf CO 33 co ≡ byte-Y
     pub at : ℕ
     pub is-card : IsCard at
@@ -122,14 +130,16 @@ module _ (R : List Rec) (q : Question) (leg : Leg) where
 pub record IsFare (bundle : List ℕ) (R : List Rec) (q : Question) (fare : ℕ) (parts : List ℕ) : Type 0 where
   pub good : Good bundle R
   pub in-limits : InLimits q
+  pub cards-differ : CardsDiffer q
   pub leg-by-leg : (k : ℕ) → k < q .count → LegFare R q (legAt q k) (getD parts k 0)
   pub none-beyond : (k : ℕ) → q .count ≤ k → getD parts k 0 ≡ 0
   pub eight : length parts ≡ 8
   pub summed : fare ≡ sum parts
 
--- NO FARE, by number, place and detail: the bundle has a fault; or the question is outside its limits; or leg k is turned away, and no leg before it
+-- NO FARE, by number, place and detail: the bundle has a fault; or the question is outside its limits, or gives a card twice; or leg k is turned away, and no leg before it
 pub data NoFare (bundle : List ℕ) (R : List Rec) (rest : List ℕ) (q : Question) : ℕ → ℕ → ℕ → Type 0 where
   faulty : {n p d : ℕ} → Fault bundle R rest n p d → NoFare bundle R rest q n p d
   outside-limits : Good bundle R → (InLimits q → ⊥) → NoFare bundle R rest q 11 0 0
-  at-leg : Good bundle R → InLimits q → (k : ℕ) → k < q .count → ((j : ℕ) → j < k → (part : ℕ) × LegFare R q (legAt q j) part)
+  card-twice : Good bundle R → InLimits q → (CardsDiffer q → ⊥) → NoFare bundle R rest q 17 0 0
+  at-leg : Good bundle R → InLimits q → CardsDiffer q → (k : ℕ) → k < q .count → ((j : ℕ) → j < k → (part : ℕ) × LegFare R q (legAt q j) part)
       → {n d : ℕ} → TurnedAway R q (legAt q k) n d → NoFare bundle R rest q n k d

@@ -1,10 +1,11 @@
 -- The limits of a question (document 01, 'Pricing').
 -- Assumes nothing.
 use Prim.Native.Nat.{ℕ}
-use mathlib.Core.Bool.{Bool, _&&_}
+use mathlib.Core.Bool.{Bool, true, cond, not, _&&_}
 use mathlib.Core.List.{List, [], _∷_}
-use lib.Dec.{leb}
-use Rattle.common.specs.Lists.{every, firstOf}
+use lib.Dec.{eqb, leb}
+use lib.ListN.{getD}
+use Rattle.common.specs.Lists.{every, any, only, firstOf}
 use Rattle.layout.specs.Company.{isRailway}
 use Rattle.layout.specs.Dates.{isDay}
 use Rattle.fares.specs.declared.Leg.{Leg}
@@ -24,13 +25,36 @@ noLeg = record { railway = 0; fare = 0 }
 abbrev pub legsOf : Question → List Leg
 legsOf q = firstOf noLeg (q .count) (q .legs)
 
+-- "up to four different cards": four slots, 0 where there is none; and the cards given, in their order
+abbrev pub cardSlots : Question → List ℕ
+cardSlots q = firstOf 0 4 (q .cards)
+
+abbrev pub isGiven : ℕ → Bool
+isGiven card = not (eqb card 0)
+
+abbrev pub cardsOf : Question → List ℕ
+cardsOf q = only isGiven (cardSlots q)
+
+abbrev pub cardOf : Question → ℕ
+cardOf q = getD (q .cards) 0 0
+
+-- "a card 0-999 (0 = none)", and behind a slot that is not used none is
+unfoldable pub cardsInLimits : List ℕ → Bool
+cardsInLimits [] = true
+cardsInLimits (c ∷ cs) = leb c 999 && cond (isGiven c) (cardsInLimits cs) (every (eqb 0) cs)
+
+-- 17, a card given twice: it stands in a later slot as well
+unfoldable pub cardsDiffer : List ℕ → Bool
+cardsDiffer [] = true
+cardsDiffer (c ∷ cs) = not (isGiven c && any (eqb c) cs) && cardsDiffer cs
+
 -- "an offer 1-99,999, a real date as day, persons 1-99, a card 0-999 (0 = none), and one to eight legs"
 abbrev pub limitsOf : Question → List Bool
 limitsOf q =
     between 1 99999 (q .offer) ∷
     isDay (q .day) ∷
     between 1 99 (q .persons) ∷
-    between 0 999 (q .card) ∷
+    cardsInLimits (cardSlots q) ∷
     between 1 8 (q .count) ∷
     every legInLimits (legsOf q) ∷
     []

@@ -1,7 +1,9 @@
 -- A discount taken from an amount and rounded once, and a chain of them (document 01, 'Pricing').
 -- Assumes nothing.
 use Prim.Native.Nat.{ℕ, _+_, _-_, _*_}
+use mathlib.Core.Bool.{cond}
 use mathlib.Core.List.{List, [], _∷_}
+use lib.Dec.{leb}
 use Rattle.layout.specs.Layout.{CO, AR}
 use Rattle.layout.specs.Fields.{grantIn}
 use Rattle.layout.specs.declared.fields.Grant.{Grant}
@@ -23,10 +25,14 @@ unfoldable pub reduceAll : ℕ → List Grant → ℕ
 reduceAll amount [] = amount
 reduceAll amount (g ∷ gs) = reduceAll (reduceBy amount g) gs
 
--- how many steps a leg has at most: CO's, then one card's
-abbrev pub steps : ℕ
-steps = 2
+abbrev pub greater : ℕ → ℕ → ℕ
+greater a b = cond (leb a b) b a
 
--- "A part is at most 99,197,505 cents": a step adds at most 998 cents, and 99 persons pay at most 999,999 cents plus those
-abbrev pub partBound : ℕ
-partBound = 99 * (999999 + 998 * steps)
+-- how many steps a leg has at most by the number of cards: CO's, and one for each card, of which one is always counted
+abbrev pub stepsFor : ℕ → ℕ
+stepsFor cards = 1 + greater 1 cards
+
+-- "A part is at most 99,197,505 cents", and "rises by 998 cents a person for each card after the first": a step adds at most 998 cents, and 99 persons
+-- pay at most 999,999 cents plus those
+abbrev pub partBound : ℕ → ℕ
+partBound cards = 99 * (999999 + 998 * stepsFor cards)

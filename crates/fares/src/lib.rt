@@ -17,13 +17,13 @@ pub struct Leg {
     pub fare: u32,
 }
 
-// What is asked: `day` is a number YYYYMMDD, `card` 0 is none, and legs from `count` on are not looked at.
+// What is asked: `day` is a number YYYYMMDD, a card 0 is none, and legs from `count` on are not looked at.
 #[repr(C)]
 pub struct Question {
     pub offer: u32,
     pub day: u32,
     pub persons: u32,
-    pub card: u32,
+    pub cards: [u32; 4],
     pub count: u32,
     pub legs: [Leg; 8],
 }
@@ -51,9 +51,6 @@ fn refused(why: common::Refusal) -> Quote
     }
 }
 
-// No part is above this: the definition `partBound`.
-pub const PART_BOUND: u32 = 99197505;
-
 const MOST_FARE: u64 = 4294967295;
 
 // The fare from a bundle that was accepted.
@@ -62,6 +59,9 @@ fn price(bundle: &[u8], q: Question) -> Quote
 {
     if !limits::in_limits(q) {
         return refused(common::refuse(11, 0, 0));
+    }
+    if !limits::cards_differ(q) {
+        return refused(common::refuse(17, 0, 0));
     }
     let legs = q.legs;
     let count = q.count as usize;

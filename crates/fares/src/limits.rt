@@ -1,8 +1,12 @@
 // The limits of a question.
 ghost use mathlib.Core.Path.{_≡_};
+ghost use mathlib.Core.Bool.{Bool};
 ghost use Prim.Native.Nat.{_≤_};
-ghost use Rattle.common.specs.Lists.{every, firstOf};
-ghost use Rattle.fares.specs.Question.{between, noLeg, legInLimits, inLimits};
+ghost use lib.Dec.{eqb};
+ghost use lib.ListN.{length, drop};
+ghost use Rattle.common.specs.Lists.{every, any, only, firstOf};
+ghost use Rattle.fares.specs.Question.{between, noLeg, legInLimits, cardSlots, isGiven, cardsOf, cardsInLimits, cardsDiffer, inLimits};
+ghost use Rattle.fares.specs.Reductions.{partBound};
 use super::Leg;
 use super::Question;
 
@@ -39,6 +43,38 @@ fn legs_in_limits(legs: [Leg; 8], count: usize) -> bool
     true
 }
 
+// Whether no slot from one on is used.
+fn none_from(cards: [u32; 4], first: usize) -> bool
+    requires { ⌜ first ≤ 4 ⌝ }
+    ensures { λ r. ⌜ r ≡ every (eqb 0) (drop first (firstOf 0 4 cards)) ⌝ }
+{
+    let mut k = first;
+    while k < 4 {
+        if cards[k] != 0 {
+            return false;
+        }
+        k += 1;
+    }
+    true
+}
+
+fn cards_in_limits(cards: [u32; 4]) -> bool
+    ensures { λ r. ⌜ r ≡ cardsInLimits (firstOf 0 4 cards) ⌝ }
+{
+    let mut k = 0;
+    while k < 4 {
+        let card = cards[k];
+        if card == 0 {
+            return none_from(cards, k + 1);
+        }
+        if 999 < card {
+            return false;
+        }
+        k += 1;
+    }
+    true
+}
+
 pub fn in_limits(q: Question) -> bool
     ensures { λ r. ⌜ r ≡ inLimits q ⌝ }
 {
@@ -51,7 +87,8 @@ pub fn in_limits(q: Question) -> bool
     if !is_between(q.persons, 1, 99) {
         return false;
     }
-    if !is_between(q.card, 0, 999) {
+    let cards = q.cards;
+    if !cards_in_limits(cards) {
         return false;
     }
     if !is_between(q.count, 1, 8) {
@@ -59,4 +96,63 @@ pub fn in_limits(q: Question) -> bool
     }
     let legs = q.legs;
     legs_in_limits(legs, q.count as usize)
+}
+
+// Whether a card stands in a slot from one on.
+fn stands_from(cards: [u32; 4], card: u32, first: usize) -> bool
+    requires { ⌜ first ≤ 4 ⌝ }
+    ensures { λ r. ⌜ r ≡ any (eqb card) (drop first (firstOf 0 4 cards)) ⌝ }
+{
+    let mut k = first;
+    while k < 4 {
+        if cards[k] == card {
+            return true;
+        }
+        k += 1;
+    }
+    false
+}
+
+// Whether no card is given twice.
+pub fn cards_differ(q: Question) -> bool
+    ensures { λ r. ⌜ r ≡ cardsDiffer (cardSlots q) ⌝ }
+{
+    let cards = q.cards;
+    let mut k = 0;
+    while k < 4 {
+        let card = cards[k];
+        if card != 0 {
+            if stands_from(cards, card, k + 1) {
+                return false;
+            }
+        }
+        k += 1;
+    }
+    true
+}
+
+fn card_count(q: Question) -> u32
+    ensures { λ r. ⌜ r ≡ length (cardsOf q) ⌝ }
+{
+    let cards = q.cards;
+    let mut count = 0;
+    let mut k = 0;
+    while k < 4 {
+        if cards[k] != 0 {
+            count += 1;
+        }
+        k += 1;
+    }
+    count
+}
+
+// No part of a question is above this.
+pub fn part_bound(q: Question) -> u32
+    ensures { λ r. ⌜ r ≡ partBound (length (cardsOf q)) ⌝ }
+{
+    let cards = card_count(q);
+    if cards < 1 {
+        return 99 * (999999 + 998 * 2);
+    }
+    99 * (999999 + 998 * (1 + cards))
 }

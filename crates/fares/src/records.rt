@@ -32,7 +32,8 @@ fn wanted_for(table: u32, code: u32, q: Question, leg: Leg) -> Wanted
 fn card_for<'a>(bundle: &'a [u8], q: Question, leg: Leg, co: &'a [u8]) -> Choice
     ensures { λ r. ⌜ r ≡ atPlace (now (bundle .entry)) (cardFor (recordsOf (now (bundle .entry))) q leg (now (co .entry))) ⌝ }
 {
-    let card = q.card;
+    let cards = q.cards;
+    let card = cards[0];
     if card == 0 {
         return Choice::Nothing;
     }

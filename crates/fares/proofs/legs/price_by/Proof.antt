@@ -3,17 +3,17 @@
 use Prim.Native.Nat.{_≤_, _*_}
 use mathlib.Core.Bool.{true}
 use mathlib.Core.Path.{_≡_, _∙_, ap}
+use native.Mathlib.Nat.{le-trans}
 use native.Mathlib.Omega.{arith}
 use borrow.Author.Tests.{eq-eqb, ne-eqb}
 use Rattle.common.specs.Checks.{firstFault}
 use Rattle.common.proofs.Tests.{fails, holds}
 use Rattle.bundle.specs.Helpers.{bodyAt}
-use Rattle.fares.specs.Reductions.{partBound}
 use Rattle.fares.specs.Legs.{personsFit, partBy}
 use Rattle.fares.specs.Helpers.{bodiesAt, answerBy}
 use Rattle.fares.specs.declared.legs.Priced.the-variants.{Part, Refused}
 use Rattle.fares.proofs.StepLaws.{conditions-small, step-small}
-use Rattle.fares.proofs.LegLaws.{by-small, part-by}
+use Rattle.fares.proofs.LegLaws.{mostBound, bound-most, by-small, part-by}
 use borrow.Author.Needs.{needs}
 use Rattle.fares.proofs.legs.price_by.Statement.{statement}
 use Rattle.fares.proofs.legs.price_by.Tie as tie
@@ -28,11 +28,11 @@ part c =
     let a = entry (c .before .before) .args in
     part-by (a .q) (a .leg) (a .co .now) (bodiesAt (a .bundle .now) (a .card)) (c .after-card .ensures) (c .before .reduce .ensures) (c .before .before .conditions-grant .ensures)
 
-small : (c : tie.After-after-card) → c .after-card .result * entry (c .before .before) .args .q .persons ≤ partBound
+small : (c : tie.After-after-card) → c .after-card .result * entry (c .before .before) .args .q .persons ≤ mostBound
 small c =
     let s = entry (c .before .before) in
     let a = s .args in
-    rw (part c) (by-small (a .q) (a .leg) (a .co .now) (bodyAt (a .bundle .now)) (a .card) (s .pre .0) (s .pre .1))
+    rw (part c) (le-trans (by-small (a .q) (a .leg) (a .co .now) (bodyAt (a .bundle .now)) (a .card) (s .pre .0) (s .pre .1)) (bound-most (a .q)))
 
 factor : (c : tie.After-conditions-grant) → c .conditions-grant .result .factor ≤ 999
 factor c = rw (c .conditions-grant .ensures) (conditions-small (entry c .args .co .now))

@@ -16,5 +16,5 @@ returns-3 c =
 pub card-for-spec : {M : Type 1} → statement M
 card-for-spec =
     tie.close (tie.spec
-    (λ c. rw (eq-eqb _ _ (c .if1 .taken), and-false)) (λ c κs. search needs)
+    (λ c. search needs) (λ c. rw (eq-eqb _ _ (c .if1 .taken), and-false)) (λ c κs. search needs)
     (λ c. rw (fails (c .before .is-yes .result) (c .if2 .taken) (c .before .is-yes .ensures))) (λ c κs. search needs) (λ c κs. search needs) returns-3)
