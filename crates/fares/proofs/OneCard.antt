@@ -1,27 +1,86 @@
 -- ONE CARD OR NONE: the base's limits, its parts and its first fault, and so its fare.
 -- Assumes nothing.
-use Prim.Native.Nat.{ℕ}
+use Prim.Native.Nat.{ℕ, zero, suc, _<_, zero-le}
 use mathlib.Core.Path.{_≡_, refl, sym, _∙_, ap, ap₂}
-use mathlib.Core.Bool.{Bool, true, false, cond, not, _&&_, and-true}
+use mathlib.Core.Bool.{Bool, true, false, cond, not, _&&_, _||_, and-true}
 use mathlib.Core.List.{List, [], _∷_, _++_}
 use native.Mathlib.Omega.{arith}
 use lib.Dec.{eqb, ltb, leb}
-use lib.ListN.{length}
+use lib.ListN.{length, getD}
+use lib.Seq.{ext-getD}
+use borrow.Author.Tests.{le-leb}
 use Rattle.common.specs.Lists.{every, any, only, sum, firstOf}
 use Rattle.common.specs.Checks.{Check, check, firstFault, eachFrom}
+use Rattle.common.proofs.Lists.{first-length, first-at}
 use Rattle.common.proofs.Checks.{fault-append}
 use Rattle.bundle.specs.Records.{Rec, recordsOf}
 use Rattle.bundle.specs.Verdict.{checks}
-use Rattle.fares.specs.Question.{legsOf, isGiven, cardSlots, cardsOf, cardsInLimits, cardsDiffer, inLimits}
+use Rattle.fares.specs.Question.{between, legsOf, isGiven, cardSlots, cardsOf, cardsInLimits, cardsDiffer, inLimits}
 use Rattle.fares.specs.Reductions.{partBound}
 use Rattle.fares.specs.Legs.{chosen, legChecks, partBy}
 use Rattle.fares.specs.Fare.{partsOf, mostFare, priceChecks, fareChecks, fareOf}
 use Rattle.fares.specs.Meaning.{cardAt}
-use Rattle.fares.specs.OneCard.{OneCard, baseInLimits, basePart, baseParts, baseChecks, baseFare, baseBound}
+use Rattle.fares.specs.OneCard.{OneCard, baseInLimits, basePart, baseParts, basePrice, baseChecks, baseFare, baseBound}
 use Rattle.fares.specs.declared.Question.{Question}
 
+-- the first slot decides
+by-first : (c : ℕ) → cardsInLimits (c ∷ 0 ∷ 0 ∷ 0 ∷ []) ≡ between 0 999 c
+unfolding cardsInLimits every
+by-first c = rw (le-leb 0 c zero-le) (go (eqb c 0))
+  where
+    go : (z : Bool) → (leb c 999 && cond (not z) true true) ≡ leb c 999
+    go true = and-true (leb c 999)
+    go false = and-true (leb c 999)
+
 module _ (q : Question) (o : OneCard q) where
-  -- its slots
+  -- ITS SLOTS
   pub slots-are : cardSlots q ≡ cardAt q 0 ∷ 0 ∷ 0 ∷ 0 ∷ []
-  unfolding firstOf
-  slots-are = ?
+  slots-are =
+      ext-getD 0 (cardSlots q) (cardAt q 0 ∷ 0 ∷ 0 ∷ 0 ∷ []) (first-length 0 4 (q .cards))
+      (λ k l. let m : k < 4 = omega (arith, first-length 0 4 (q .cards)) in first-at 0 4 (q .cards) k m ∙ at k m)
+    where
+      at : (k : ℕ) → k < 4 → cardAt q k ≡ getD (cardAt q 0 ∷ 0 ∷ 0 ∷ 0 ∷ []) k 0
+      at zero l = refl
+      at (suc zero) l = o 1 (omega arith) l
+      at (suc (suc zero)) l = o 2 (omega arith) l
+      at (suc (suc (suc zero))) l = o 3 (omega arith) l
+      at (suc (suc (suc (suc k)))) l = absurd (omega arith)
+
+  -- its limits, and that no card is given twice
+  pub limits-are : inLimits q ≡ baseInLimits q
+  unfolding inLimits baseInLimits
+  limits-are = rw (slots-are, by-first (cardAt q 0))
+
+  pub cards-differ : cardsDiffer (cardSlots q) ≡ true
+  unfolding cardsDiffer any
+  cards-differ = rw slots-are (go (eqb (cardAt q 0) 0))
+    where
+      go : (z : Bool) → (not (not z && (z || (z || (z || false)))) && true) ≡ true
+      go true = refl
+      go false = refl
+
+  -- the bound on its parts
+  pub bound-is : partBound (length (cardsOf q)) ≡ baseBound
+  unfolding only
+  bound-is = rw slots-are (go (eqb (cardAt q 0) 0))
+    where
+      go : (z : Bool) → partBound (length (cond (not z) (cardAt q 0 ∷ []) [])) ≡ baseBound
+      go true = refl
+      go false = refl
+
+  -- ITS PARTS
+  pub parts-are : (R : List Rec) → partsOf R q ≡ baseParts R q
+  unfolding partsOf baseParts basePart chosen partBy
+  parts-are R = refl
+
+  -- the first fault, and the fare
+  module _ (s : List ℕ) where
+    pub faults-are : firstFault (fareChecks s q) ≡ firstFault (baseChecks s q)
+    unfolding fareChecks priceChecks baseChecks firstFault
+    faults-are =
+        fault-append (checks s) (priceChecks (recordsOf s) q)
+        ∙ (rw (limits-are, cards-differ, parts-are (recordsOf s)) (sym (fault-append (checks s) (basePrice (recordsOf s) q))))
+
+    pub fare-is : fareOf s q ≡ baseFare s q
+    unfolding fareOf baseFare
+    fare-is = rw (faults-are, parts-are (recordsOf s))

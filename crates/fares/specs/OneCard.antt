@@ -56,12 +56,13 @@ unfoldable pub baseParts : List Rec → Question → List ℕ
 baseParts R q = map (basePart R q) (legsOf q) ++ replicate (8 - q .count) 0
 
 -- "verdict, 11, 12 to 15, 16"
+abbrev pub basePrice : List Rec → Question → List Check
+basePrice R q =
+    check (not (baseInLimits q)) 11 0 0 ∷
+    (eachFrom 0 (legChecks R q) (legsOf q) ++ (check (ltb mostFare (sum (baseParts R q))) 16 0 0 ∷ []))
+
 unfoldable pub baseChecks : List ℕ → Question → List Check
-baseChecks s q =
-    let R : List Rec = recordsOf s in
-    checks s ++
-    (check (not (baseInLimits q)) 11 0 0 ∷
-    (eachFrom 0 (legChecks R q) (legsOf q) ++ (check (ltb mostFare (sum (baseParts R q))) 16 0 0 ∷ [])))
+baseChecks s q = checks s ++ basePrice (recordsOf s) q
 
 unfoldable pub baseFare : List ℕ → Question → Quote
 baseFare s q = quoted (firstFault (baseChecks s q)) (baseParts (recordsOf s) q)
