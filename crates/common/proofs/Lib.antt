@@ -1,6 +1,7 @@
 pub mod Tests
 pub mod Least
 pub mod Lists
+pub mod Rising
 pub mod Fours
 pub mod Parts
 pub mod Digits

@@ -1,5 +1,6 @@
 pub mod Least
 pub mod Lists
+pub mod Rising
 pub mod Digits
 pub mod Checks
 pub mod Helpers

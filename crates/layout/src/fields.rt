@@ -146,6 +146,25 @@ pub fn most_persons(co: &[u8]) -> u32
     number_at(co, 117, 2)
 }
 
+// Whether an AR is applied together with others; its rating and its code.
+pub fn is_cumulative(ar: &[u8]) -> bool
+    ensures { λ r. ⌜ r ≡ isYes inAR 6 (now (ar .entry)) ⌝ }
+{
+    common::byte_at(ar, 23) == b'Y'
+}
+
+pub fn card_rating(ar: &[u8]) -> u32
+    ensures { λ r. ⌜ r ≡ numberIn inAR 7 (now (ar .entry)) ⌝ }
+{
+    number_at(ar, 24, 3)
+}
+
+pub fn card_code(ar: &[u8]) -> u32
+    ensures { λ r. ⌜ r ≡ numberIn inAR 4 (now (ar .entry)) ⌝ }
+{
+    number_at(ar, 14, 3)
+}
+
 // What a record grants: the discount in thousandths of a percent, the rounding byte and the factor.
 pub struct Grant {
     pub discount: u32,
