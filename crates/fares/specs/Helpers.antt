@@ -2,26 +2,75 @@
 -- has to be believed: no promise and no answer of a call is stated with it.
 -- Assumes nothing.
 use Prim.Native.Nat.{ℕ}
+use mathlib.Core.Bool.{Bool}
 use mathlib.Core.List.{List, map}
+use lib.Dec.{leb}
+use lib.ListN.{length, take, getD}
+use Rattle.common.specs.Lists.{only, firstOf}
 use Rattle.common.specs.Checks.{Finding, unless, firstFault}
-use Rattle.bundle.specs.Records.{Rec}
-use Rattle.bundle.specs.Helpers.{bodyAt, atPlace}
+use Rattle.layout.specs.declared.fields.Grant.{Grant}
+use Rattle.bundle.specs.Records.{Rec, recordsOf}
+use Rattle.bundle.specs.Helpers.{placesOf, bodyAt, atPlace}
 use Rattle.bundle.specs.declared.choice.Choice.{Choice}
-use Rattle.fares.specs.Legs.{found, conditionChecks, legChecks, partBy, partOf}
+use Rattle.fares.specs.Reductions.{cardGrants, reduceBy}
+use Rattle.fares.specs.Cards.{isAlone, rankOf}
+use Rattle.fares.specs.Legs.{conditionsFor, bodyOf, appliedFor, conditionChecks, legChecks, partBy, partOf}
 use Rattle.fares.specs.Fare.{partsOf, priceChecks, quoted}
 use Rattle.fares.specs.declared.Leg.{Leg}
 use Rattle.fares.specs.declared.Question.{Question}
 use Rattle.fares.specs.declared.Quote.{Quote}
 use Rattle.fares.specs.declared.legs.Priced.{Priced}
 use Rattle.fares.specs.declared.legs.Priced.the-variants.{Part, Refused}
+use Rattle.fares.specs.declared.records.Cards.{Cards}
 use Rattle.fares.specs.declared.records.LegRecords.{LegRecords}
+use Rattle.fares.specs.declared.cards.Step.{Step}
+use Rattle.fares.specs.declared.cards.Row.{Row}
 
--- the records of a leg by the places of their marks, and the bytes of a record by its place
-abbrev pub placed : List ℕ → LegRecords → LegRecords
-placed s c = record { conditions = atPlace s (c .conditions); card = atPlace s (c .card) }
+-- the AR records that apply as the code keeps them: how many, and where their marks stand; and the bytes of records by their places
+unfoldable pub cardsBy : List ℕ → Cards
+cardsBy places = record { count = length places; at = firstOf 0 4 places }
 
-abbrev pub bodiesAt : List ℕ → Choice → List (List ℕ)
-bodiesAt s c = map (bodyAt s) (found c)
+abbrev pub placesIn : Cards → List ℕ
+placesIn c = take (c .count) (c .at)
+
+abbrev pub bodiesAt : List ℕ → List ℕ → List (List ℕ)
+bodiesAt s places = map (bodyAt s) places
+
+abbrev pub placeOf : List ℕ → ℕ → ℕ
+placeOf s i = getD (placesOf s) i 0
+
+-- the records of a leg by the places of their marks
+unfoldable pub placed : List ℕ → Question → Leg → LegRecords
+placed s q leg =
+    let R : List Rec = recordsOf s in
+    let c : Choice = conditionsFor R q leg in
+    record { conditions = atPlace s c; cards = cardsBy (map (placeOf s) (appliedFor R q leg (bodyOf R c))) }
+
+-- an AR that is applied together with others: where it stands in their row, and what it grants; and the row as the code keeps it
+abbrev pub stepOf : List ℕ → Step
+stepOf ar = record { rank = rankOf ar; grant = cardGrants ar }
+
+abbrev pub rankIn : Step → ℕ
+rankIn x = x .rank
+
+abbrev pub grantOf : Step → Grant
+grantOf x = x .grant
+
+abbrev pub noStep : Step
+noStep = record { rank = 0; grant = record { discount = 0; mode = 0; factor = 0 } }
+
+unfoldable pub rowBy : List Step → Row
+rowBy xs = record { count = length xs; steps = firstOf noStep 4 xs }
+
+abbrev pub stepsIn : Row → List Step
+stepsIn row = take (row .count) (row .steps)
+
+abbrev pub factorFits : Step → Bool
+factorFits x = leb (x .grant .factor) 999
+
+-- what is left by a record alone
+abbrev pub aloneFrom : ℕ → List (List ℕ) → List ℕ
+aloneFrom amount ars = map (λ ar. reduceBy amount (cardGrants ar)) (only isAlone ars)
 
 -- the answer on one leg, and by the bytes of its CO and of its cards
 abbrev pub answered : Finding → ℕ → Priced

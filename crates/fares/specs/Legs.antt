@@ -2,23 +2,22 @@
 -- Assumes nothing.
 use Prim.Native.Nat.{ℕ, _*_}
 use mathlib.Core.Bool.{Bool, true, false, cond, not, _&&_}
-use mathlib.Core.List.{List, [], _∷_, map}
+use mathlib.Core.List.{List, [], _∷_, map, flatMap}
 use lib.Dec.{eqb, leb}
 use lib.ListN.{getD}
 use Rattle.common.specs.Checks.{Check, check}
 use Rattle.layout.specs.Layout.{CO, AR}
 use Rattle.layout.specs.Fields.{numberIn, isYes}
-use Rattle.layout.specs.declared.fields.Grant.{Grant}
 use Rattle.bundle.specs.Records.{Rec, noRec}
 use Rattle.bundle.specs.Choice.{choiceOf}
 use Rattle.bundle.specs.declared.choice.Wanted.{Wanted}
 use Rattle.bundle.specs.declared.choice.Choice.{Choice}
 use Rattle.bundle.specs.declared.choice.Choice.the-variants.{At, NotThatDay, Nothing}
-use Rattle.fares.specs.Question.{cardOf}
-use Rattle.fares.specs.Reductions.{conditionsGrant, cardGrants, reduceAll}
+use Rattle.fares.specs.Question.{isGiven, cardSlots}
+use Rattle.fares.specs.Reductions.{conditionsGrant, reduceBy}
+use Rattle.fares.specs.Cards.{afterCards}
 use Rattle.fares.specs.declared.Leg.{Leg}
 use Rattle.fares.specs.declared.Question.{Question}
-use Rattle.fares.specs.declared.records.LegRecords.{LegRecords}
 
 -- WHICH RECORDS. What is wanted of a record for a leg: its table, a code, and the offer, the leg's railway and the day
 abbrev pub wantedFor : ℕ → ℕ → Question → Leg → Wanted
@@ -28,30 +27,29 @@ wantedFor t c q leg = record { table = t; offer = q .offer; railway = leg .railw
 abbrev pub conditionsFor : List Rec → Question → Leg → Choice
 conditionsFor R q leg = choiceOf R (wantedFor CO 0 q leg)
 
--- the record that was chosen, if one was, and its bytes: "If there is no such AR, or the day lies outside it, the card does not reduce that leg"
+-- the record that was chosen, if one was: "If there is no such AR, or the day lies outside it, the card does not reduce that leg"
 abbrev pub found : Choice → List ℕ
 found (At i) = i ∷ []
 found NotThatDay = []
 found Nothing = []
 
-abbrev pub bodies : List Rec → Choice → List (List ℕ)
-bodies R c = map (λ i. getD R i noRec .body) (found c)
+-- the bytes of records by their numbers, and of the one that was chosen
+abbrev pub bodies : List Rec → List ℕ → List (List ℕ)
+bodies R is = map (λ i. getD R i noRec .body) is
 
 abbrev pub bodyOf : List Rec → Choice → List ℕ
-bodyOf R c = getD (bodies R c) 0 []
+bodyOf R c = getD (bodies R (found c)) 0 []
 
--- "Then, if its flag 33 is Y and a card is given, the offer's AR record of that railway and code, or else the one of 0000."
-abbrev pub cardCounts : Question → List ℕ → Bool
-cardCounts q co = isYes CO 33 co && not (eqb (cardOf q) 0)
+-- "Then, if its flag 33 is Y and a card is given, the offer's AR record of that railway and code, or else the one of 0000"; those of all its cards, in the
+-- order of the cards
+abbrev pub cardFor : List Rec → Question → Leg → ℕ → Choice
+cardFor R q leg card = cond (isGiven card) (choiceOf R (wantedFor AR card q leg)) Nothing
 
-abbrev pub cardFor : List Rec → Question → Leg → List ℕ → Choice
-cardFor R q leg co = cond (cardCounts q co) (choiceOf R (wantedFor AR (cardOf q) q leg)) Nothing
+unfoldable pub cardsFor : List Rec → Question → Leg → List ℕ
+cardsFor R q leg = flatMap (λ card. found (cardFor R q leg card)) (cardSlots q)
 
--- the records of a leg, by their numbers
-unfoldable pub chosen : List Rec → Question → Leg → LegRecords
-chosen R q leg =
-    let c : Choice = conditionsFor R q leg in
-    record { conditions = c; card = cardFor R q leg (bodyOf R c) }
+abbrev pub appliedFor : List Rec → Question → Leg → List ℕ → List ℕ
+appliedFor R q leg co = cond (isYes CO 33 co) (cardsFor R q leg) []
 
 -- WHAT THEY SAY. "Least persons 00-99, most persons 01-99; two blanks mean 00 and 99", in fields 28 and 29
 abbrev pub mostOf : List ℕ → ℕ
@@ -92,20 +90,16 @@ isOffDay Nothing = false
 -- 12: no CO for railway or 0000; 13: day outside that CO; then as it says
 abbrev pub legChecks : List Rec → Question → ℕ → Leg → List Check
 legChecks R q k leg =
-    let c : Choice = chosen R q leg .conditions in
+    let c : Choice = conditionsFor R q leg in
     check (isNothing c) 12 k 0 ∷
     check (isOffDay c) 13 k 0 ∷
     conditionChecks q k (bodyOf R c)
 
--- the steps of a leg: CO's, then the card's
-abbrev pub stepsOf : List ℕ → List (List ℕ) → List Grant
-stepsOf co cards = conditionsGrant co ∷ map cardGrants cards
-
--- "The leg's part is the result times the persons"
+-- the plain fare after the CO, and then after the cards; "The leg's part is the result times the persons"
 unfoldable pub partBy : Question → Leg → List ℕ → List (List ℕ) → ℕ
-partBy q leg co cards = reduceAll (leg .fare) (stepsOf co cards) * q .persons
+partBy q leg co cards = afterCards (reduceBy (leg .fare) (conditionsGrant co)) cards * q .persons
 
 abbrev pub partOf : List Rec → Question → Leg → ℕ
 partOf R q leg =
-    let c : LegRecords = chosen R q leg in
-    partBy q leg (bodyOf R (c .conditions)) (bodies R (c .card))
+    let co : List ℕ = bodyOf R (conditionsFor R q leg) in
+    partBy q leg co (bodies R (appliedFor R q leg co))

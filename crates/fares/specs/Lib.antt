@@ -1,6 +1,7 @@
 pub mod Question
 pub mod Rounding
 pub mod Reductions
+pub mod Cards
 pub mod Legs
 pub mod Fare
 pub mod Meaning

@@ -9,7 +9,7 @@ use mathlib.Core.Logic.{_⊎_}
 use lib.Dec.{eqb}
 use lib.ListN.{length, getD}
 use Rattle.common.specs.Lists.{any, sum}
-use Rattle.layout.specs.Bytes.{byte-Y}
+use Rattle.layout.specs.Bytes.{byte-N, byte-Y}
 use Rattle.layout.specs.Calendar.{RealDay}
 use Rattle.layout.specs.Layout.{CO, AR}
 use Rattle.layout.specs.Fields.{numberIn, byteOf}
@@ -17,7 +17,7 @@ use Rattle.bundle.specs.Records.{Rec}
 use Rattle.bundle.specs.Chosen.{NoneFor, Uses}
 use Rattle.bundle.specs.Faults.{Fault}
 use Rattle.bundle.specs.Meaning.{recordAt, Good}
-use Rattle.fares.specs.Question.{noLeg, cardOf}
+use Rattle.fares.specs.Question.{noLeg}
 use Rattle.fares.specs.Rounding.{IsRounded}
 use Rattle.fares.specs.declared.Leg.{Leg}
 use Rattle.fares.specs.declared.Question.{Question}
@@ -77,33 +77,59 @@ pub record FirstSet (fs co : List ℕ) (f : ℕ) : Type 0 where
 abbrev pub unreadFields : List ℕ
 unreadFields = 27 ∷ 31 ∷ 32 ∷ 34 ∷ 35 ∷ []
 
+-- "in rising rating and, at equal rating, rising code": fields 7 and 4 of an AR
+abbrev pub Rises : List ℕ → List ℕ → Type 0
+Rises ar next = (numberIn AR 7 ar < numberIn AR 7 next) ⊎ ((numberIn AR 7 ar ≡ numberIn AR 7 next) × (numberIn AR 4 ar < numberIn AR 4 next))
+
 module _ (R : List Rec) (q : Question) (leg : Leg) where
   -- "the CO record of the offer and that railway is used, or else the offer's one for 0000"
   abbrev pub IsConditions : ℕ → Type 0
   IsConditions i = Uses R CO (q .offer) 0 (leg .railway) i
 
   -- "the offer's AR record of that railway and code, or else the one of 0000"
-  abbrev pub IsCard : ℕ → Type 0
-  IsCard i = Uses R AR (q .offer) (cardOf q) (leg .railway) i
+  abbrev pub IsCard : ℕ → ℕ → Type 0
+  IsCard card i = Uses R AR (q .offer) card (leg .railway) i
 
-  -- NO CARD COUNTS: none is given, or flag 33 is not Y, or there is no such AR, or the day lies outside it
-  pub data NoCard (co : List ℕ) : Type 0 where
-    none-given : cardOf q ≡ 0 → NoCard co
-    not-allowed : (byteOf CO 33 co ≡ byte-Y → ⊥) → NoCard co
-    no-record : NoneFor R AR (q .offer) (cardOf q) (leg .railway) → NoneFor R AR (q .offer) (cardOf q) 0 → NoCard co
-    not-in-force : (i : ℕ) → IsCard i → (InForce AR 11 13 (recordAt R i .body) (q .day) → ⊥) → NoCard co
+  module _ (co : List ℕ) where
+    -- A RECORD APPLIES that day: flag 33 of the CO is Y, and it is the AR of a card that is given, in force
+    pub record Applies (i : ℕ) : Type 0 where
+      pub allowed : byteOf CO 33 co ≡ byte-Y
+      pub slot : ℕ
+      pub inside : slot < 4
+      pub given : cardAt q slot ≡ 0 → ⊥
+      pub is-card : IsCard (cardAt q slot) i
+      pub in-force : InForce AR 11 13 (recordAt R i .body) (q .day)
 
-  -- A CARD COUNTS: "the same is done to that rounded amount" by its AR
-  pub record CardCounts (co : List ℕ) (before after : ℕ) : Type 0 where
-    pub given : cardOf q ≡ 0 → ⊥
-    pub allowed : byteOf CO 33 co ≡ byte-Y
-    pub at : ℕ
-    pub is-card : IsCard at
-    pub in-force : InForce AR 11 13 (recordAt R at .body) (q .day)
-    pub reduced : IsReduced AR 5 9 10 (recordAt R at .body) before after
+    -- its field 6 says whether it is applied together with others or alone
+    pub record AppliesWith (flag i : ℕ) : Type 0 where
+      pub applies : Applies i
+      pub says : byteOf AR 6 (recordAt R i .body) ≡ flag
 
-  -- A LEG'S PART: its CO, in force that day, admits the persons and sets no condition unread; the plain fare after the CO, and after the card if one counts,
-  -- times the persons
+    -- ALL THAT ARE APPLIED TOGETHER, each of them once, in their order
+    pub record AllTogether (is : List ℕ) : Type 0 where
+      pub each : (k : ℕ) → k < length is → AppliesWith byte-Y (getD is k 0)
+      pub all : (i : ℕ) → AppliesWith byte-Y i → (k : ℕ) × (k < length is) × (getD is k 0 ≡ i)
+      pub in-order : (j k : ℕ) → j < k → k < length is → Rises (recordAt R (getD is j 0) .body) (recordAt R (getD is k 0) .body)
+
+    -- A PERMITTED CHOICE: "Field 6 = Y records are applied together (if any) .. A record with N is applied alone."
+    pub data Permitted : List ℕ → Type 0 where
+      together : {is : List ℕ} → AllTogether is → 0 < length is → Permitted is
+      alone : {i : ℕ} → AppliesWith byte-N i → Permitted (i ∷ [])
+
+  -- AN AMOUNT AFTER A CHOICE: "the same is done to that rounded amount" by one record after the other
+  pub data After : List ℕ → ℕ → ℕ → Type 0 where
+    done : {amount : ℕ} → After [] amount amount
+    then : {i : ℕ} {is : List ℕ} {before amount last : ℕ} → IsReduced AR 5 9 10 (recordAt R i .body) before amount → After is amount last
+        → After (i ∷ is) before last
+
+  -- THE AMOUNT AFTER THE CARDS: "The leg takes the least of these amounts; if no record applies, the amount after CO stands."
+  pub data AfterCards (co : List ℕ) (before : ℕ) : ℕ → Type 0 where
+    none-applies : ((i : ℕ) → Applies co i → ⊥) → AfterCards co before before
+    least : {last : ℕ} (choice : List ℕ) → Permitted co choice → After choice before last
+        → ((other : List ℕ) (amount : ℕ) → Permitted co other → After other before amount → last ≤ amount) → AfterCards co before last
+
+  -- A LEG'S PART: its CO, in force that day, admits the persons and sets no condition unread; the plain fare after the CO, and after the cards, times the
+  -- persons
   pub record LegFare (part : ℕ) : Type 0 where
     pub at : ℕ
     pub is-conditions : IsConditions at
@@ -113,7 +139,7 @@ module _ (R : List Rec) (q : Question) (leg : Leg) where
     pub amount : ℕ
     pub reduced : IsReduced CO 39 40 41 (recordAt R at .body) (leg .fare) amount
     pub last : ℕ
-    pub by-card : (NoCard (recordAt R at .body) × (last ≡ amount)) ⊎ CardCounts (recordAt R at .body) amount last
+    pub by-cards : AfterCards (recordAt R at .body) amount last
     pub times-persons : part ≡ last * q .persons
 
   -- A LEG IS TURNED AWAY by a number and its detail. 12: no CO for railway or 0000; 13: day outside that CO; 14: persons outside its fields 28, 29; 15: a

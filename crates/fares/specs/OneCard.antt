@@ -19,7 +19,7 @@ use Rattle.bundle.specs.declared.choice.Choice.{Choice}
 use Rattle.bundle.specs.declared.choice.Choice.the-variants.{Nothing}
 use Rattle.fares.specs.Question.{between, legInLimits, legsOf}
 use Rattle.fares.specs.Reductions.{conditionsGrant, cardGrants, reduceAll}
-use Rattle.fares.specs.Legs.{wantedFor, conditionsFor, bodies, bodyOf, legChecks}
+use Rattle.fares.specs.Legs.{wantedFor, conditionsFor, found, bodies, bodyOf, legChecks}
 use Rattle.fares.specs.Fare.{mostFare, quoted}
 use Rattle.fares.specs.Meaning.{cardAt}
 use Rattle.fares.specs.declared.Leg.{Leg}
@@ -50,7 +50,7 @@ baseCard R q leg co = cond (isYes CO 33 co && not (eqb (cardAt q 0) 0)) (choiceO
 unfoldable pub basePart : List Rec → Question → Leg → ℕ
 basePart R q leg =
     let co : List ℕ = bodyOf R (conditionsFor R q leg) in
-    reduceAll (leg .fare) (conditionsGrant co ∷ map cardGrants (bodies R (baseCard R q leg co))) * q .persons
+    reduceAll (leg .fare) (conditionsGrant co ∷ map cardGrants (bodies R (found (baseCard R q leg co)))) * q .persons
 
 unfoldable pub baseParts : List Rec → Question → List ℕ
 baseParts R q = map (basePart R q) (legsOf q) ++ replicate (8 - q .count) 0

@@ -4,7 +4,6 @@ use Prim.Native.Nat.{ℕ}
 use mathlib.Core.Bool.{Bool, true, cond, not, _&&_}
 use mathlib.Core.List.{List, [], _∷_}
 use lib.Dec.{eqb, leb}
-use lib.ListN.{getD}
 use Rattle.common.specs.Lists.{every, any, only, firstOf}
 use Rattle.layout.specs.Company.{isRailway}
 use Rattle.layout.specs.Dates.{isDay}
@@ -34,9 +33,6 @@ isGiven card = not (eqb card 0)
 
 abbrev pub cardsOf : Question → List ℕ
 cardsOf q = only isGiven (cardSlots q)
-
-abbrev pub cardOf : Question → ℕ
-cardOf q = getD (q .cards) 0 0
 
 -- "a card 0-999 (0 = none)", and behind a slot that is not used none is
 unfoldable pub cardsInLimits : List ℕ → Bool

@@ -1,13 +1,13 @@
 // One leg: what its records say of it, and its part of the fare.
 ghost use mathlib.Core.Path.{_≡_};
-ghost use mathlib.Core.List.{map};
 ghost use Prim.Native.Nat.{_≤_};
 ghost use Rattle.bundle.specs.Records.{recordsOf};
-ghost use Rattle.fares.specs.Reductions.{cardGrants, reduceAll};
-ghost use Rattle.fares.specs.Legs.{personsFit, unread, firstSet, chosen};
-ghost use Rattle.fares.specs.Helpers.{placed, bodiesAt, answerOf, answerBy};
+ghost use Rattle.fares.specs.Legs.{personsFit, unread, firstSet};
+ghost use Rattle.fares.specs.Helpers.{placesIn, bodiesAt, placed, answerOf, answerBy};
 use super::Leg;
 use super::Question;
+use super::cards::after_cards;
+use super::records::Cards;
 use super::records::LegRecords;
 use super::reductions::reduce;
 use bundle::choice::Choice;
@@ -50,29 +50,17 @@ fn persons_fit(co: &[u8], persons: u32) -> bool
     persons <= most
 }
 
-// The amount per person after the card, if there is one.
-fn after_card(bundle: &[u8], card: Choice, amount: u64) -> u64
-    requires { ⌜ amount ≤ 10000000000 ⌝ }
-    ensures { λ r. ⌜ r ≡ reduceAll amount (map cardGrants (bodiesAt (now (bundle .entry)) card)) ⌝ }
-{
-    let Choice::At(place) = card else {
-        return amount;
-    };
-    let ar = bundle::walk::body_at(bundle, place);
-    reduce(amount, layout::fields::card_grant(ar))
-}
-
-// The leg by its CO and its card: 14, then 15, then its part.
+// The leg by its CO and its cards: 14, then 15, then its part.
 fn price_by<'a>(
     bundle: &'a [u8],
     q: Question,
     k: usize,
     leg: Leg,
     co: &'a [u8],
-    card: Choice,
+    cards: Cards,
 ) -> Priced
-    requires { ⌜ (leg .fare ≤ 999999) × (q .persons ≤ 99) ⌝ }
-    ensures { λ r. ⌜ r ≡ answerBy q k leg (now (co .entry)) (bodiesAt (now (bundle .entry)) card) ⌝ }
+    requires { ⌜ (leg .fare ≤ 999999) × (q .persons ≤ 99) × (cards .count ≤ 4) ⌝ }
+    ensures { λ r. ⌜ r ≡ answerBy q k leg (now (co .entry)) (bodiesAt (now (bundle .entry)) (placesIn cards)) ⌝ }
 {
     let persons = q.persons;
     if !persons_fit(co, persons) {
@@ -83,17 +71,17 @@ fn price_by<'a>(
         return Priced::Refused(common::refuse(15, k, unread as usize));
     }
     let reduced = reduce(leg.fare as u64, layout::fields::conditions_grant(co));
-    let amount = after_card(bundle, card, reduced);
+    let amount = after_cards(bundle, cards, reduced);
     Priced::Part((amount * (persons as u64)) as u32)
 }
 
 // Leg k from its records: 12, then 13, then as they say.
 fn price_from(bundle: &[u8], q: Question, k: usize, leg: Leg, records: LegRecords) -> Priced
-    requires { ⌜ (leg .fare ≤ 999999) × (q .persons ≤ 99) × (records ≡ placed (now bundle) (chosen (recordsOf (now bundle)) q leg)) ⌝ }
+    requires { ⌜ (leg .fare ≤ 999999) × (q .persons ≤ 99) × (records ≡ placed (now bundle) q leg) ⌝ }
     ensures { λ r. ⌜ r ≡ answerOf (recordsOf (now (bundle .entry))) q k leg ⌝ }
 {
     let conditions = records.conditions;
-    let card = records.card;
+    let cards = records.cards;
     match conditions {
         Choice::Nothing => Priced::Refused(common::refuse(12, k, 0)),
         Choice::NotThatDay => Priced::Refused(common::refuse(13, k, 0)),
@@ -103,7 +91,7 @@ fn price_from(bundle: &[u8], q: Question, k: usize, leg: Leg, records: LegRecord
             k,
             leg,
             bundle::walk::body_at(bundle, place),
-            card,
+            cards,
         ),
     }
 }

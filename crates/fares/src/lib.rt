@@ -4,6 +4,7 @@ ghost use Rattle.bundle.specs.Records.{recordsOf};
 ghost use Rattle.fares.specs.Fare.{noFare, fareOf};
 ghost use Rattle.fares.specs.Helpers.{priceOf};
 
+mod cards;
 mod legs;
 pub mod limits;
 mod records;

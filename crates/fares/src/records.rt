@@ -1,18 +1,25 @@
 // The records that a leg is priced by.
 ghost use mathlib.Core.Path.{_≡_};
+ghost use mathlib.Core.List.{[], map};
 ghost use Rattle.bundle.specs.Records.{recordsOf};
 ghost use Rattle.bundle.specs.Helpers.{atPlace};
-ghost use Rattle.fares.specs.Legs.{wantedFor, cardFor, chosen};
-ghost use Rattle.fares.specs.Helpers.{placed};
+ghost use Rattle.fares.specs.Legs.{wantedFor, cardFor, cardsFor};
+ghost use Rattle.fares.specs.Helpers.{cardsBy, placeOf, placed};
 use super::Leg;
 use super::Question;
 use bundle::choice::Choice;
 use bundle::choice::Wanted;
 
-// By the places of their marks: the CO, and the AR of the card; nothing for a card that does not count.
+// The AR records that apply, in the order of the cards, by the places of their marks.
+pub struct Cards {
+    pub count: usize,
+    pub at: [usize; 4],
+}
+
+// The CO by the place of its mark, and the AR records that apply.
 pub struct LegRecords {
     pub conditions: Choice,
-    pub card: Choice,
+    pub cards: Cards,
 }
 
 // What is wanted of a record for a leg.
@@ -28,31 +35,62 @@ fn wanted_for(table: u32, code: u32, q: Question, leg: Leg) -> Wanted
     }
 }
 
-// The AR, which is looked for only if a card is given and flag 33 of the CO is Y.
-fn card_for<'a>(bundle: &'a [u8], q: Question, leg: Leg, co: &'a [u8]) -> Choice
-    ensures { λ r. ⌜ r ≡ atPlace (now (bundle .entry)) (cardFor (recordsOf (now (bundle .entry))) q leg (now (co .entry))) ⌝ }
+// The AR of a card, if one is given.
+fn card_for(bundle: &[u8], q: Question, leg: Leg, card: u32) -> Choice
+    ensures { λ r. ⌜ r ≡ atPlace (now (bundle .entry)) (cardFor (recordsOf (now (bundle .entry))) q leg card) ⌝ }
 {
-    let cards = q.cards;
-    let card = cards[0];
     if card == 0 {
-        return Choice::Nothing;
-    }
-    if !layout::fields::is_yes(co, 33) {
         return Choice::Nothing;
     }
     bundle::choice::choose(bundle, wanted_for(layout::AR, card, q, leg))
 }
 
+fn no_cards() -> Cards
+    ensures { λ r. ⌜ r ≡ cardsBy [] ⌝ }
+{
+    Cards {
+        count: 0,
+        at: [0; 4],
+    }
+}
+
+fn cards_for(bundle: &[u8], q: Question, leg: Leg) -> Cards
+    ensures { λ r. ⌜ r ≡ cardsBy (map (placeOf (now (bundle .entry))) (cardsFor (recordsOf (now (bundle .entry))) q leg)) ⌝ }
+{
+    let slots = q.cards;
+    let mut at = [0usize; 4];
+    let mut count = 0;
+    let mut k = 0;
+    while k < 4 {
+        let found = card_for(bundle, q, leg, slots[k]);
+        if let Choice::At(place) = found {
+            at[count] = place;
+            count += 1;
+        }
+        k += 1;
+    }
+    Cards { count, at }
+}
+
+// The cards count only if flag 33 of the CO is Y.
 pub fn choose(bundle: &[u8], q: Question, leg: Leg) -> LegRecords
-    ensures { λ r. ⌜ r ≡ placed (now (bundle .entry)) (chosen (recordsOf (now (bundle .entry))) q leg) ⌝ }
+    ensures { λ r. ⌜ r ≡ placed (now (bundle .entry)) q leg ⌝ }
 {
     let conditions = bundle::choice::choose(bundle, wanted_for(layout::CO, 0, q, leg));
     let Choice::At(place) = conditions else {
         return LegRecords {
             conditions,
-            card: Choice::Nothing,
+            cards: no_cards(),
         };
     };
-    let card = card_for(bundle, q, leg, bundle::walk::body_at(bundle, place));
-    LegRecords { conditions, card }
+    if !layout::fields::is_yes(bundle::walk::body_at(bundle, place), 33) {
+        return LegRecords {
+            conditions,
+            cards: no_cards(),
+        };
+    }
+    LegRecords {
+        conditions,
+        cards: cards_for(bundle, q, leg),
+    }
 }
