@@ -1,9 +1,10 @@
 -- EVERY FIGURE of the list holds: antt computes each. (Modules are checked by their names, so that a wrong version fails here first, by its number.)
 -- Assumes nothing.
 use mathlib.Core.Path.{refl}
-use mathlib.Core.List.{List·Memᴰ}
+use mathlib.Core.List.{List·Memᴰ, flatMap}
 use Rattle.common.specs.Least.{least}
 use Rattle.common.specs.Lists.{every, any, only, same, sum, firstOf}
+use Rattle.common.specs.Rising.{insert, insertAll}
 use Rattle.common.specs.Digits.{digitsAfter, numberOf}
 use Rattle.common.specs.Checks.{firstFault, eachFrom}
 use Rattle.common.proofs.Listed.{each}
@@ -21,11 +22,12 @@ use Rattle.bundle.specs.Verdict.{firstPass, secondPass, checks}
 use Rattle.fares.specs.Question.{cardsInLimits, cardsDiffer, inLimits}
 use Rattle.fares.specs.Rounding.{rounded, upwards, downwards, nearest}
 use Rattle.fares.specs.Reductions.{reduceBy, reduceAll}
-use Rattle.fares.specs.Legs.{chosen, personsFit, unread, firstSet, partBy}
+use Rattle.fares.specs.Cards.{leastFrom, afterCards}
+use Rattle.fares.specs.Legs.{cardsFor, personsFit, unread, firstSet, partBy}
 use Rattle.fares.specs.Fare.{partsOf, priceChecks, fareChecks, fareOf}
 use Rattle.fares.specs.Figures.{Figure, Says, figures}
 
 -- THE FIGURES
 pub fare-figures-hold : (x : Figure) → List·Memᴰ x figures → Says x
-unfolding least every any only same sum firstOf digitsAfter numberOf firstFault eachFrom isCompany isAllRailways isTransferor companyOf isRailway isDay monthLength monthLengths lengthOf endOf tableAt tables rowWith rowOf bytesOf byteOf numberIn isYes transferorOf offerOf railwayOf codeOf codeFits sameKey dayRow hasPeriod firstDay lastDay holdsDay grantIn numberOrBlank mostPersons factorRule firstDayRule lastDayRule ruled keptBeside keepsRow firstBroken brokenField tableOf stepOf recordsFrom restFrom recordsOf restOf otherTransferor clash earlierOf linkRows isAsked railwayServes joins serves missingLink isOf choiceOf firstPass secondPass checks cardsInLimits cardsDiffer inLimits rounded upwards downwards nearest reduceBy reduceAll chosen personsFit unread firstSet partBy partsOf priceChecks fareChecks fareOf digits year conditions named card
+unfolding least every any only same sum firstOf digitsAfter numberOf firstFault eachFrom isCompany isAllRailways isTransferor companyOf isRailway isDay monthLength monthLengths lengthOf endOf tableAt tables rowWith rowOf bytesOf byteOf numberIn isYes transferorOf offerOf railwayOf codeOf codeFits sameKey dayRow hasPeriod firstDay lastDay holdsDay grantIn numberOrBlank mostPersons factorRule firstDayRule lastDayRule ruled keptBeside keepsRow firstBroken brokenField tableOf stepOf recordsFrom restFrom recordsOf restOf otherTransferor clash earlierOf linkRows isAsked railwayServes joins serves missingLink isOf choiceOf firstPass secondPass checks cardsInLimits cardsDiffer inLimits rounded upwards downwards nearest reduceBy reduceAll insert insertAll flatMap leastFrom afterCards cardsFor personsFit unread firstSet partBy partsOf priceChecks fareChecks fareOf digits year conditions named card
 fare-figures-hold = each Says figures (refl, (refl, (refl, (refl, (refl, (refl, (refl, (refl, (refl, (refl, (refl, (refl, (refl, (refl, (refl, (refl, (refl, (refl, (refl, (refl, (refl, (refl, (refl, (refl, tt))))))))))))))))))))))))

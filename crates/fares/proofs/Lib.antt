@@ -3,6 +3,7 @@ pub mod Grants
 pub mod Fit
 pub mod RoundLaws
 pub mod StepLaws
+pub mod CardLaws
 pub mod LegLaws
 pub mod LegMeaning
 pub mod CardSlots

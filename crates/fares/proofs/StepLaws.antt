@@ -17,21 +17,29 @@ use Rattle.fares.specs.Rounding.{unit}
 use Rattle.fares.specs.Reductions.{conditionsGrant, cardGrants, reduceBy, reduceAll, greater, stepsFor, partBound}
 use Rattle.fares.proofs.RoundLaws.{rounded-small, rounded-mono}
 
--- a factor of three digits is at most 999, which those of CO and AR are
-factor-small : (t f : ℕ) (body : List ℕ) → rowOf t f .length ≡ 3 → numberIn t f body ≤ 999
+-- a number of three digits is at most 999: the factors of CO and AR, and the rating and the code of an AR
+three-digits : (t f : ℕ) (body : List ℕ) → rowOf t f .length ≡ 3 → numberIn t f body ≤ 999
 unfolding numberIn bytesOf
-factor-small t f body e =
+three-digits t f body e =
     let l : length (bytesOf t f body) ≤ 3 = rw (e, length-take) (omega arith) in
     omega (arith, number-small (bytesOf t f body) 3 l)
 
 module _ (body : List ℕ) where
   pub conditions-small : conditionsGrant body .factor ≤ 999
   unfolding grantIn rowOf rowWith tableAt tables
-  conditions-small = factor-small CO 41 body refl
+  conditions-small = three-digits CO 41 body refl
 
   pub card-small : cardGrants body .factor ≤ 999
   unfolding grantIn rowOf rowWith tableAt tables
-  card-small = factor-small AR 10 body refl
+  card-small = three-digits AR 10 body refl
+
+  pub rating-small : numberIn AR 7 body ≤ 999
+  unfolding rowOf rowWith tableAt tables
+  rating-small = three-digits AR 7 body refl
+
+  pub code-small : numberIn AR 4 body ≤ 999
+  unfolding rowOf rowWith tableAt tables
+  code-small = three-digits AR 4 body refl
 
 module _ (r : Grant) where
   pub step-small : r .factor ≤ 999 → (a : ℕ) → reduceBy a r ≤ a + 998
@@ -100,11 +108,5 @@ bound-grows a b l = go (leb 1 a) refl (leb 1 b) refl
     go false e false f = omega arith
 
 -- THE BOUND on a part: at most 99 persons, each with the steps of so many cards from at most 999,999 cents
-pub part-small : (cards fare persons : ℕ) (rs : List Grant) → fare ≤ 999999 → persons ≤ 99 → Granted rs → length rs ≤ stepsFor cards
-    → reduceAll fare rs * persons ≤ partBound cards
-part-small cards fare persons rs hf hp g l =
-    let a : reduceAll fare rs ≤ 999999 + 998 * stepsFor cards = omega (arith, all-small rs g fare) in
-    mul-le-mul-comm cards (reduceAll fare rs) persons a hp
-  where
-    mul-le-mul-comm : (cards x persons : ℕ) → x ≤ 999999 + 998 * stepsFor cards → persons ≤ 99 → x * persons ≤ 99 * (999999 + 998 * stepsFor cards)
-    mul-le-mul-comm cards x persons a hp = omega (arith, mul-le-mul a hp)
+pub part-small : (cards amount persons : ℕ) → amount ≤ 999999 + 998 * stepsFor cards → persons ≤ 99 → amount * persons ≤ partBound cards
+part-small cards amount persons a hp = omega (arith, mul-le-mul a hp)

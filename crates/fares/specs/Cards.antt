@@ -46,7 +46,7 @@ leastFrom a (b ∷ bs) = leastFrom (lesser a b) bs
 
 abbrev pub leastOr : ℕ → List ℕ → ℕ
 leastOr stands [] = stands
-leastOr stands (a ∷ as) = leastFrom a as
+leastOr stands (a ∷ rest) = leastFrom a rest
 
 unfoldable pub afterCards : ℕ → List (List ℕ) → ℕ
 afterCards amount ars = leastOr amount (choicesOf amount ars)

@@ -1,12 +1,12 @@
 -- What the code's helpers answer: places in the bundle in place of numbers of records, and the price of one leg and of an accepted bundle. Nothing here
 -- has to be believed: no promise and no answer of a call is stated with it.
 -- Assumes nothing.
-use Prim.Native.Nat.{ℕ}
+use Prim.Native.Nat.{ℕ, _-_}
 use mathlib.Core.Bool.{Bool}
-use mathlib.Core.List.{List, map}
+use mathlib.Core.List.{List, _++_, map}
 use lib.Dec.{leb}
-use lib.ListN.{length, take, getD}
-use Rattle.common.specs.Lists.{only, firstOf}
+use lib.ListN.{length, take, getD, replicate}
+use Rattle.common.specs.Lists.{only}
 use Rattle.common.specs.Checks.{Finding, unless, firstFault}
 use Rattle.layout.specs.declared.fields.Grant.{Grant}
 use Rattle.bundle.specs.Records.{Rec, recordsOf}
@@ -26,9 +26,13 @@ use Rattle.fares.specs.declared.records.LegRecords.{LegRecords}
 use Rattle.fares.specs.declared.cards.Step.{Step}
 use Rattle.fares.specs.declared.cards.Row.{Row}
 
+-- four places, those behind a list the same
+abbrev pub padded : {A : Type 0} → A → List A → List A
+padded d xs = xs ++ replicate (4 - length xs) d
+
 -- the AR records that apply as the code keeps them: how many, and where their marks stand; and the bytes of records by their places
 unfoldable pub cardsBy : List ℕ → Cards
-cardsBy places = record { count = length places; at = firstOf 0 4 places }
+cardsBy places = record { count = length places; at = padded 0 places }
 
 abbrev pub placesIn : Cards → List ℕ
 placesIn c = take (c .count) (c .at)
@@ -60,7 +64,7 @@ abbrev pub noStep : Step
 noStep = record { rank = 0; grant = record { discount = 0; mode = 0; factor = 0 } }
 
 unfoldable pub rowBy : List Step → Row
-rowBy xs = record { count = length xs; steps = firstOf noStep 4 xs }
+rowBy xs = record { count = length xs; steps = padded noStep xs }
 
 abbrev pub stepsIn : Row → List Step
 stepsIn row = take (row .count) (row .steps)

@@ -3,7 +3,7 @@ ghost use mathlib.Core.Path.{_≡_};
 ghost use mathlib.Core.Bool.{true};
 ghost use mathlib.Core.List.{_++_, map};
 ghost use Prim.Native.Nat.{_+_, _≤_, _<_};
-ghost use lib.ListN.{take, drop};
+ghost use lib.ListN.{length, take, drop};
 ghost use Rattle.common.specs.Lists.{every};
 ghost use Rattle.common.specs.Rising.{insert as inserted};
 ghost use Rattle.bundle.specs.Helpers.{bodyAt};
@@ -38,7 +38,7 @@ fn step_of(ar: &[u8]) -> Step
 
 // One more among the first steps, which rise: at each place the lower one stays, and the other goes on.
 fn insert(steps: [Step; 4], count: usize, step: Step) -> [Step; 4]
-    requires { ⌜ count < 4 ⌝ }
+    requires { ⌜ (count < 4) × (length steps ≡ 4) ⌝ }
     ensures { λ r. ⌜ r ≡ inserted rankIn step (take count steps) ++ drop (count + 1) steps ⌝ }
 {
     let mut row = steps;
@@ -87,7 +87,7 @@ fn together(bundle: &[u8], cards: Cards) -> Row
 
 // One after the other, each rounded by itself.
 fn after_row(row: Row, amount: u64) -> u64
-    requires { ⌜ (row .count ≤ 4) × (amount ≤ 1000000000) × (every factorFits (stepsIn row) ≡ true) ⌝ }
+    requires { ⌜ (row .count ≤ 4) × (length (row .steps) ≡ 4) × (amount ≤ 1000000000) × (every factorFits (stepsIn row) ≡ true) ⌝ }
     ensures { λ r. ⌜ r ≡ reduceAll amount (map grantOf (stepsIn row)) ⌝ }
 {
     let steps = row.steps;
