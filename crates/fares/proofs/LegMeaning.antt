@@ -1,9 +1,9 @@
 -- A LEG BY MEANING: what its checks find and what its part is, from the records that the rules choose, and back.
 -- Assumes nothing.
-use Prim.Native.Nat.{ℕ, _-_, _*_, _≤_, _<_}
+use Prim.Native.Nat.{ℕ, _*_, _≤_, _<_}
 use mathlib.Core.Path.{_≡_, refl, sym, _∙_, ap}
-use mathlib.Core.Bool.{Bool, true, false, cond, not, _&&_, and-false}
-use mathlib.Core.List.{List, [], _∷_, _++_, map}
+use mathlib.Core.Bool.{Bool, true, false, cond, _&&_}
+use mathlib.Core.List.{List, [], _∷_, _++_}
 use mathlib.Core.Logic.{_⊎_, inl, inr, ⊎-elim}
 use native.Mathlib.Omega.{arith}
 use lib.Dec.{eqb, leb, ltb}
@@ -12,61 +12,31 @@ use Rattle.common.specs.Lists.{every, any}
 use Rattle.common.specs.Checks.{refuse, clean, fault, firstFault}
 use Rattle.common.proofs.Tests.{never, both-true, either-false, refuted}
 use Rattle.layout.specs.Bytes.{byte-Y}
-use Rattle.layout.specs.Layout.{CO, AR, tableAt, tables}
-use Rattle.layout.specs.Fields.{rowWith, rowOf, bytesOf, byteOf, numberIn, isFlagRow, isYes, ofOffers, dayRow, firstDay, lastDay, grantIn}
+use Rattle.layout.specs.Layout.{CO, tableAt, tables}
+use Rattle.layout.specs.Fields.{rowWith, rowOf, bytesOf, byteOf, numberIn, isFlagRow, isYes, ofOffers, dayRow, firstDay, lastDay}
 use Rattle.bundle.specs.Records.{Rec}
-use Rattle.bundle.specs.Choice.{forLegs, choiceOf}
-use Rattle.bundle.specs.Chosen.{HoldsDay, Chosen, used, not-that-day, nothing}
+use Rattle.bundle.specs.Choice.{forLegs}
+use Rattle.bundle.specs.Chosen.{Chosen, used, not-that-day, nothing}
 use Rattle.bundle.specs.Meaning.{recordAt, Good}
 use Rattle.bundle.specs.declared.choice.Choice.{Choice}
 use Rattle.bundle.specs.declared.choice.Choice.the-variants.{At, NotThatDay, Nothing}
 use Rattle.bundle.proofs.Chosen.{choice-means, chosen-only}
-use Rattle.fares.specs.Question.{cardOf}
-use Rattle.fares.specs.Reductions.{conditionsGrant, cardGrants, reduceBy, reduceAll}
-use Rattle.fares.specs.Rounding.{IsRounded}
-use Rattle.fares.specs.Legs.{wantedFor, conditionsFor, bodies, cardCounts, cardFor, chosen, mostOf, personsFit, unread, firstSet, conditionChecks, legChecks, partBy, partOf}
-use Rattle.fares.specs.Meaning.{InForce, IsReduced, PersonsFit, NoneSet, FirstSet, unreadFields, IsConditions, IsCard, NoCard, none-given, not-allowed, no-record, not-in-force as card-not-in-force, CardCounts, LegFare}
+use Rattle.fares.specs.Reductions.{conditionsGrant, reduceBy}
+use Rattle.fares.specs.Cards.{afterCards}
+use Rattle.fares.specs.Legs.{wantedFor, conditionsFor, bodies, appliedFor, mostOf, personsFit, unread, firstSet, conditionChecks, legChecks, partBy, partOf}
+use Rattle.fares.specs.Meaning.{CardsDiffer, InForce, PersonsFit, NoneSet, FirstSet, unreadFields, IsConditions, LegFare}
 use Rattle.fares.specs.Meaning.{TurnedAway, no-conditions, not-in-force, persons-outside, unread as condition-unread}
 use Rattle.fares.specs.declared.Leg.{Leg}
 use Rattle.fares.specs.declared.Question.{Question}
-use Rattle.fares.proofs.RoundLaws.{up-only, down-only, near-only}
-use Rattle.fares.proofs.Grants.{Lawful, rounded-as-said, conditions-lawful, card-lawful}
+use Rattle.fares.proofs.Grants.{Lawful, conditions-lawful}
+use Rattle.fares.proofs.RecordMeaning.{reduced-by, reduced-only, to-force, from-force}
+use Rattle.fares.proofs.CardMeaning.{cards-mean, cards-only}
+pub use Rattle.fares.proofs.RecordMeaning.{rounded-only}
 
--- ROUNDED AS A BYTE SAYS: no other amount is
-pub rounded-only : {mode n f r s : ℕ} → IsRounded mode n f r → IsRounded mode n f s → r ≡ s
-rounded-only x y =
-    ⊎-elim
-    (λ a. ⊎-elim (λ b. up-only (a .1) (b .1)) (⊎-elim (λ b. omega (arith, a .0, b .0)) (⊎-elim (λ b. omega (arith, a .0, b .0)) (λ b. omega (arith, a .0, b .0)))) y)
-    (⊎-elim
-    (λ a. ⊎-elim (λ b. omega (arith, a .0, b .0)) (⊎-elim (λ b. down-only (a .1) (b .1)) (⊎-elim (λ b. omega (arith, a .0, b .0)) (λ b. omega (arith, a .0, b .0)))) y)
-    (⊎-elim
-    (λ a. ⊎-elim (λ b. omega (arith, a .0, b .0)) (⊎-elim (λ b. omega (arith, a .0, b .0)) (⊎-elim (λ b. near-only (a .1) (b .1)) (λ b. omega (arith, a .0, b .0)))) y)
-    (λ a. ⊎-elim (λ b. omega (arith, a .0, b .0)) (⊎-elim (λ b. omega (arith, a .0, b .0)) (⊎-elim (λ b. omega (arith, a .0, b .0)) (λ b. near-only (a .1) (b .1)))) y))) x
-
--- A STEP by a record's grant is the amount after that record, and the only one
-module _ (t d m f : ℕ) (body : List ℕ) (l : Lawful (grantIn t d m f body)) (before : ℕ) where
-  reduced-by : IsReduced t d m f body before (reduceBy before (grantIn t d m f body))
-  unfolding grantIn
-  reduced-by = record { at-most-whole = l .at-most-whole; rounded-once = rounded-as-said (grantIn t d m f body) l before }
-
-  reduced-only : {after : ℕ} → IsReduced t d m f body before after → after ≡ reduceBy before (grantIn t d m f body)
-  reduced-only x = rounded-only (x .rounded-once) (reduced-by .rounded-once)
-
--- THE DAYS of a table are two of its fields
-module _ (t first last : ℕ) (days : (body : List ℕ) → (firstDay t body ≡ numberIn t first body) × (lastDay t body ≡ numberIn t last body)) (R : List Rec) (day i : ℕ) where
-  to-force : HoldsDay R t day i → InForce t first last (recordAt R i .body) day
-  to-force h = let d = days (recordAt R i .body) in (rw (← d .0) (h .0), rw (← d .1) (h .1))
-
-  from-force : InForce t first last (recordAt R i .body) day → HoldsDay R t day i
-  from-force h = let d = days (recordAt R i .body) in (rw (d .0) (h .0), rw (d .1) (h .1))
-
+-- THE DAYS of a CO
 conditions-days : (body : List ℕ) → (firstDay CO body ≡ numberIn CO 42 body) × (lastDay CO body ≡ numberIn CO 44 body)
 unfolding firstDay lastDay dayRow numberIn bytesOf rowOf rowWith tableAt tables
 conditions-days body = (refl, refl)
-
-card-days : (body : List ℕ) → (firstDay AR body ≡ numberIn AR 11 body) × (lastDay AR body ≡ numberIn AR 13 body)
-unfolding firstDay lastDay dayRow numberIn bytesOf rowOf rowWith tableAt tables
-card-days body = (refl, refl)
 
 -- THE PERSONS
 module _ (co : List ℕ) (persons : ℕ) where
@@ -160,111 +130,41 @@ conditions-legs : forLegs CO ≡ true
 unfolding forLegs ofOffers any every tableAt tables
 conditions-legs = refl
 
-card-legs : forLegs AR ≡ true
-unfolding forLegs ofOffers any every tableAt tables
-card-legs = refl
-
 module _ (s : List ℕ) (R : List Rec) (g : Good s R) (q : Question) (leg : Leg) where
   conditions-mean : Chosen R CO (q .offer) 0 (leg .railway) (q .day) (conditionsFor R q leg)
   conditions-mean = choice-means s R g (wantedFor CO 0 q leg) conditions-legs
 
-  abbrev cardChoice : Choice
-  cardChoice = choiceOf R (wantedFor AR (cardOf q) q leg)
-
-  card-mean : Chosen R AR (q .offer) (cardOf q) (leg .railway) (q .day) cardChoice
-  card-mean = choice-means s R g (wantedFor AR (cardOf q) q leg) card-legs
-
   is-conditions : (c : Choice) → Chosen R CO (q .offer) 0 (leg .railway) (q .day) c → conditionsFor R q leg ≡ c
   is-conditions c m = chosen-only s R g CO conditions-legs (q .offer) 0 (leg .railway) (q .day) _ c conditions-mean m
-
-  is-card : (c : Choice) → Chosen R AR (q .offer) (cardOf q) (leg .railway) (q .day) c → cardChoice ≡ c
-  is-card c m = chosen-only s R g AR card-legs (q .offer) (cardOf q) (leg .railway) (q .day) _ c card-mean m
 
   conditions-at : (i : ℕ) → IsConditions R q leg i → InForce CO 42 44 (recordAt R i .body) (q .day) → conditionsFor R q leg ≡ At i
   conditions-at i u f = is-conditions (At i) (used i u (from-force CO 42 44 conditions-days R (q .day) i f))
 
-  -- what the records grant
+  -- what the record grants
   conditions-grant : (i : ℕ) → IsConditions R q leg i → Lawful (conditionsGrant (recordAt R i .body))
   conditions-grant i u = conditions-lawful (recordAt R i) (g .fields i (u .0)) (⊎-elim (λ f. f .table) (λ f. f .0 .table) (u .1))
 
-  card-grant : (i : ℕ) → IsCard R q leg i → Lawful (cardGrants (recordAt R i .body))
-  card-grant i u = card-lawful (recordAt R i) (g .fields i (u .0)) (⊎-elim (λ f. f .table) (λ f. f .0 .table) (u .1))
-
-  -- THE CARD: the amount after it, if it counts
-  module _ (co : List ℕ) where
-    abbrev after : ℕ → ℕ
-    after before = reduceAll before (map cardGrants (bodies R (cardFor R q leg co)))
-
-    allowed-is : isYes CO 33 co ≡ eqb (byteOf CO 33 co) byte-Y
-    unfolding isYes rowOf rowWith tableAt tables
-    allowed-is = refl
-
-    card-means : (before : ℕ) → (NoCard R q leg co × (after before ≡ before)) ⊎ CardCounts R q leg co before (after before)
-    unfolding reduceAll
-    card-means before = rw allowed-is (go (eqb (byteOf CO 33 co) byte-Y) refl (eqb (cardOf q) 0) refl)
-      where
-        by-choice : (c : Choice) → Chosen R AR (q .offer) (cardOf q) (leg .railway) (q .day) c → byteOf CO 33 co ≡ byte-Y → (cardOf q ≡ 0 → ⊥)
-            → let a = reduceAll before (map cardGrants (bodies R c)) in (NoCard R q leg co × (a ≡ before)) ⊎ CardCounts R q leg co before a
-        by-choice c (used i u h) y z =
-            inr (record {
-              given = z;
-              allowed = y;
-              at = i;
-              is-card = u;
-              in-force = to-force AR 11 13 card-days R (q .day) i h;
-              reduced = reduced-by AR 5 9 10 (recordAt R i .body) (card-grant i u) before;
-            })
-        by-choice c (not-that-day i u h) y z = inl (card-not-in-force i u (λ f. h (from-force AR 11 13 card-days R (q .day) i f)), refl)
-        by-choice c (nothing a b) y z = inl (no-record a b, refl)
-
-        go : (y : Bool) → eqb (byteOf CO 33 co) byte-Y ≡ y → (z : Bool) → eqb (cardOf q) 0 ≡ z
-            → let a = reduceAll before (map cardGrants (bodies R (cond (y && not z) cardChoice Nothing))) in
-            (NoCard R q leg co × (a ≡ before)) ⊎ CardCounts R q leg co before a
-        go false y z e = inl (not-allowed (λ h. never (eq-eqb _ _ h) y), refl)
-        go true y true e = inl (none-given (eqb-true _ _ e), refl)
-        go true y false e = by-choice cardChoice card-mean (eqb-true _ _ y) (λ h. never (eq-eqb _ _ h) e)
-
-    -- and the only one
-    no-bodies : NoCard R q leg co → bodies R (cardFor R q leg co) ≡ []
-    no-bodies (none-given e) = rw (eq-eqb _ _ e, and-false)
-    no-bodies (not-allowed n) = rw (allowed-is, ne-eqb _ _ n)
-    no-bodies (no-record a b) = rw (is-card Nothing (nothing a b)) (go (cardCounts q co))
-      where
-        go : (x : Bool) → bodies R (cond x Nothing Nothing) ≡ []
-        go true = refl
-        go false = refl
-    no-bodies (card-not-in-force i u n) =
-        rw (is-card NotThatDay (not-that-day i u (λ h. n (to-force AR 11 13 card-days R (q .day) i h)))) (go (cardCounts q co))
-      where
-        go : (x : Bool) → bodies R (cond x NotThatDay Nothing) ≡ []
-        go true = refl
-        go false = refl
-
-    pub card-only : (before last : ℕ) → (NoCard R q leg co × (last ≡ before)) ⊎ CardCounts R q leg co before last → last ≡ after before
-    unfolding reduceAll
-    card-only before last (inl h) = h .1 ∙ rw (no-bodies (h .0))
-    card-only before last (inr c) =
-        let i = c .at in
-        let e = is-card (At i) (used i (c .is-card) (from-force AR 11 13 card-days R (q .day) i (c .in-force))) in
-        rw (allowed-is, eq-eqb _ _ (c .allowed), ne-eqb _ _ (c .given), e) (reduced-only AR 5 9 10 (recordAt R i .body) (card-grant i (c .is-card)) before (c .reduced))
+  -- what the cards leave of an amount
+  abbrev after : List ℕ → ℕ → ℕ
+  after co before = afterCards before (bodies R (appliedFor R q leg co))
 
   -- WHAT IS FOUND of leg k
   module _ (k : ℕ) where
     at-record : (i : ℕ) → conditionsFor R q leg ≡ At i → firstFault (legChecks R q k leg) ≡ firstFault (conditionChecks q k (recordAt R i .body))
-    unfolding firstFault chosen
+    unfolding firstFault
     at-record i e = rw e
 
     part-at : (i : ℕ) → conditionsFor R q leg ≡ At i
         → partOf R q leg ≡ after (recordAt R i .body) (reduceBy (leg .fare) (conditionsGrant (recordAt R i .body))) * q .persons
-    unfolding chosen partBy reduceAll
+    unfolding partBy
     part-at i e = rw e
 
     abbrev Found : Type 0
     Found = ((firstFault (legChecks R q k leg) ≡ clean) × LegFare R q leg (partOf R q leg))
         ⊎ ((n : ℕ) × (d : ℕ) × (firstFault (legChecks R q k leg) ≡ fault (refuse n k d)) × TurnedAway R q leg n d)
 
-    -- by its CO
-    module _ (i : ℕ) (e : conditionsFor R q leg ≡ At i) (u : IsConditions R q leg i) (h : InForce CO 42 44 (recordAt R i .body) (q .day)) where
+    -- by its CO, where no card is given twice
+    module _ (d : CardsDiffer q) (i : ℕ) (e : conditionsFor R q leg ≡ At i) (u : IsConditions R q leg i) (h : InForce CO 42 44 (recordAt R i .body) (q .day)) where
       abbrev co : List ℕ
       co = recordAt R i .body
 
@@ -283,7 +183,7 @@ module _ (s : List ℕ) (R : List Rec) (g : Good s R) (q : Question) (leg : Leg)
               amount = reduceBy (leg .fare) (conditionsGrant co);
               reduced = reduced-by CO 39 40 41 co (conditions-grant i u) (leg .fare);
               last = after co (reduceBy (leg .fare) (conditionsGrant co));
-              by-card = card-means co (reduceBy (leg .fare) (conditionsGrant co));
+              by-cards = cards-mean s R g q leg co d (reduceBy (leg .fare) (conditionsGrant co));
               times-persons = part-at i e;
             },
           ))
@@ -295,18 +195,18 @@ module _ (s : List ℕ) (R : List Rec) (g : Good s R) (q : Question) (leg : Leg)
       by-persons false b = inr (14, 0, at-record i e ∙ rw b, persons-outside i u h (λ p. never (means-fit co (q .persons) p) b))
       by-persons true b = by-unread (fit-means co (q .persons) b) b
 
-    by-choice : (c : Choice) → conditionsFor R q leg ≡ c → Chosen R CO (q .offer) 0 (leg .railway) (q .day) c → Found
-    unfolding firstFault chosen
-    by-choice c e (used i u h) = by-persons i e u (to-force CO 42 44 conditions-days R (q .day) i h) (personsFit (recordAt R i .body) (q .persons)) refl
-    by-choice c e (not-that-day i u h) = inr (13, 0, rw e, not-in-force i u (λ f. h (from-force CO 42 44 conditions-days R (q .day) i f)))
-    by-choice c e (nothing a b) = inr (12, 0, rw e, no-conditions a b)
+    by-choice : CardsDiffer q → (c : Choice) → conditionsFor R q leg ≡ c → Chosen R CO (q .offer) 0 (leg .railway) (q .day) c → Found
+    unfolding firstFault
+    by-choice d c e (used i u h) = by-persons d i e u (to-force CO 42 44 conditions-days R (q .day) i h) (personsFit (recordAt R i .body) (q .persons)) refl
+    by-choice d c e (not-that-day i u h) = inr (13, 0, rw e, not-in-force i u (λ f. h (from-force CO 42 44 conditions-days R (q .day) i f)))
+    by-choice d c e (nothing a b) = inr (12, 0, rw e, no-conditions a b)
 
-    pub leg-means : Found
-    leg-means = by-choice (conditionsFor R q leg) refl conditions-mean
+    pub leg-means : CardsDiffer q → Found
+    leg-means d = by-choice d (conditionsFor R q leg) refl conditions-mean
 
     -- AND BACK
     pub means-turned : (n d : ℕ) → TurnedAway R q leg n d → firstFault (legChecks R q k leg) ≡ fault (refuse n k d)
-    unfolding firstFault chosen
+    unfolding firstFault
     means-turned n d (no-conditions a b) = rw (is-conditions Nothing (nothing a b))
     means-turned n d (not-in-force i u h) = rw (is-conditions NotThatDay (not-that-day i u (λ f. h (to-force CO 42 44 conditions-days R (q .day) i f))))
     means-turned n d (persons-outside i u h p) =
@@ -315,13 +215,13 @@ module _ (s : List ℕ) (R : List Rec) (g : Good s R) (q : Question) (leg : Leg)
         let r = one-unread-is (recordAt R i .body) f z in
         at-record i (conditions-at i u h) ∙ rw (means-fit (recordAt R i .body) (q .persons) p, r .0, ne-eqb f 0 (λ x. omega (arith, r .1)))
 
-    pub means-priced : (part : ℕ) → LegFare R q leg part → (firstFault (legChecks R q k leg) ≡ clean) × (part ≡ partOf R q leg)
+    pub means-priced : CardsDiffer q → (part : ℕ) → LegFare R q leg part → (firstFault (legChecks R q k leg) ≡ clean) × (part ≡ partOf R q leg)
     unfolding firstFault
-    means-priced part l =
+    means-priced d part l =
         let i = l .at in
         let co = recordAt R i .body in
         let e = conditions-at i (l .is-conditions) (l .in-force) in
         let a = reduced-only CO 39 40 41 co (conditions-grant i (l .is-conditions)) (leg .fare) (l .reduced) in (
           at-record i e ∙ rw (means-fit co (q .persons) (l .persons-fit), none-unread-is co (l .none-unread)),
-          l .times-persons ∙ ap (_* q .persons) (card-only co (l .amount) (l .last) (l .by-card) ∙ ap (after co) a) ∙ sym (part-at i e),
+          l .times-persons ∙ ap (_* q .persons) (cards-only s R g q leg co d (l .amount) (l .last) (l .by-cards) ∙ ap (after co) a) ∙ sym (part-at i e),
         )

@@ -4,6 +4,11 @@ pub mod Fit
 pub mod RoundLaws
 pub mod StepLaws
 pub mod CardLaws
+pub mod LeastLaws
+pub mod OnlyLaws
+pub mod RecordMeaning
+pub mod CardRecords
+pub mod CardMeaning
 pub mod LegLaws
 pub mod LegMeaning
 pub mod CardSlots
