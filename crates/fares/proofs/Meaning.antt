@@ -5,7 +5,7 @@ use Prim.Native.Nat.{ℕ, zero, suc, _+_, _-_, _*_, _≤_, _<_}
 use mathlib.Core.Path.{_≡_, refl, sym, _∙_, ap}
 use mathlib.Core.Bool.{true, false, not}
 use mathlib.Core.List.{List, [], _∷_, _++_, map}
-use mathlib.Core.Logic.{_⊎_, ⊎-elim}
+use mathlib.Core.Logic.{⊎-elim}
 use native.Mathlib.Nat.{mul-le-mul-right, zero-add, le-of-suc-le-suc, not-suc-le-zero}
 use native.Mathlib.Omega.{arith}
 use lib.Dec.{ltb}
@@ -136,7 +136,7 @@ module _ (s : List ℕ) (q : Question) where
         let e = each-clean (legChecks R q) noLeg 0 (legsOf q) (append-clean legFaults last (in-limits .2) .0) k (omega (arith, as-many R q)) in
         let f : firstFault (legChecks R q (0 + k) (legAt q k)) ≡ clean = rw (leg-is R q k l) at e in
         rw (part-of-leg R q k l)
-        (⊎-elim (λ h. h .1) (λ h. no-fault f (h .2)) (leg-means s R (clean-good (passes .0)) q (legAt q k) (0 + k)))
+        (⊎-elim (λ h. h .1) (λ h. no-fault f (h .2)) (leg-means s R (clean-good (passes .0)) q (legAt q k) (0 + k) (differ-means q (in-limits .1))))
 
   -- with what it means,
   pub fare-means : (fare : ℕ) (parts : List ℕ) → fareOf s q ≡ record { outcome = Priced; fare = fare; parts = parts } → IsFare s R q fare parts
@@ -172,7 +172,7 @@ module _ (s : List ℕ) (q : Question) where
       let f : firstFault (legChecks R q (0 + k) (legAt q k)) ≡ fault why = rw (leg-is R q k m) at (h .fails) in
       ⊎-elim (λ c. no-fault (c .0) f)
       (λ c. let i : refuse (c .0) (0 + k) (c .1) ≡ why = same-fault (sym (c .2) ∙ f) in rw (← i, zero-add) (at-leg g l d k m (earlier k m (h .earlier-clean)) (c .3)))
-      (leg-means s R g q (legAt q k) (0 + k))
+      (leg-means s R g q (legAt q k) (0 + k) d)
     where
       same-fault : {x y : Refusal} → fault x ≡ fault y → x ≡ y
       same-fault e = cc
@@ -181,7 +181,7 @@ module _ (s : List ℕ) (q : Question) where
           → (j : ℕ) → j < k → (part : ℕ) × LegFare R q (legAt q j) part
       earlier k m h j l =
           let f : firstFault (legChecks R q (0 + j) (legAt q j)) ≡ clean = rw (leg-is R q j (omega arith)) at (h j l) in
-          ⊎-elim (λ c. (partOf R q (legAt q j), c .1)) (λ c. no-fault f (c .2)) (leg-means s R g q (legAt q j) (0 + j))
+          ⊎-elim (λ c. (partOf R q (legAt q j), c .1)) (λ c. no-fault f (c .2)) (leg-means s R g q (legAt q j) (0 + j) d)
 
   by-cards : Good s R → inLimits q ≡ true → (why : Refusal) → firstFault (cards ∷ (legFaults ++ last)) ≡ fault why → Told why
   by-cards g t why e =
@@ -212,9 +212,9 @@ module _ (s : List ℕ) (q : Question) where
   unfolding fareOf
   fault-refused why c = rw c
 
-  legs-clean : Good s R → (n : ℕ) → n ≤ q .count → ((k : ℕ) → k < n → (part : ℕ) × LegFare R q (legAt q k) part)
+  legs-clean : Good s R → CardsDiffer q → (n : ℕ) → n ≤ q .count → ((k : ℕ) → k < n → (part : ℕ) × LegFare R q (legAt q k) part)
       → (k : ℕ) → k < n → firstFault (legChecks R q (0 + k) (getD (legsOf q) k noLeg)) ≡ clean
-  legs-clean g n m h k l = rw (leg-is R q k (omega arith)) (let p = h k l in means-priced s R g q (legAt q k) (0 + k) (p .0) (p .1) .0)
+  legs-clean g d n m h k l = rw (leg-is R q k (omega arith)) (let p = h k l in means-priced s R g q (legAt q k) (0 + k) d (p .0) (p .1) .0)
 
   nothing-fails : firstFault [] ≡ clean
   unfolding firstFault
@@ -227,7 +227,7 @@ module _ (s : List ℕ) (q : Question) where
       (clean-one (not (inLimits q)) 11 0 0 (cards ∷ (legFaults ++ last)) (rw (means-limits q l))
       (clean-one (not (cardsDiffer (cardSlots q))) 17 0 0 (legFaults ++ last) (rw (means-differ q d))
       (clean-append legFaults last
-      (clean-each (legChecks R q) noLeg 0 (legsOf q) (λ k m. legs-clean g (q .count) (omega arith) h k (omega (arith, as-many R q))))
+      (clean-each (legChecks R q) noLeg 0 (legsOf q) (λ k m. legs-clean g d (q .count) (omega arith) h k (omega (arith, as-many R q))))
       (clean-one _ 16 0 0 [] (never-sixteen R q (means-limits q l)) nothing-fails))))
 
   answered-by : (fare : ℕ) (parts : List ℕ) → IsFare s R q fare parts → fareOf s q ≡ record { outcome = Priced; fare = fare; parts = parts }
@@ -239,7 +239,7 @@ module _ (s : List ℕ) (q : Question) where
     where
       part-alike : IsFare s R q fare parts → (k : ℕ) → getD parts k 0 ≡ getD (partsOf R q) k 0
       part-alike f k =
-          ⊎-elim (λ l. means-priced s R (f .good) q (legAt q k) k _ (f .leg-by-leg k l) .1 ∙ sym (part-of-leg R q k l))
+          ⊎-elim (λ l. means-priced s R (f .good) q (legAt q k) k (f .cards-differ) _ (f .leg-by-leg k l) .1 ∙ sym (part-of-leg R q k l))
           (λ l. f .none-beyond k l ∙ sym (none-beyond R q k l)) (side k (q .count))
 
   refused-by : (n p d : ℕ) → NoFare s R (restOf s) q n p d → fareOf s q ≡ noFare (refuse n p d)
@@ -261,7 +261,7 @@ module _ (s : List ℕ) (q : Question) where
         at = k;
         inside = omega (arith, as-many R q);
         fails = rw (leg-is R q k m, zero-add) (means-turned s R g q (legAt q k) k n f t);
-        earlier-clean = legs-clean g k (omega arith) h;
+        earlier-clean = legs-clean g c k (omega arith) h;
       }))))
 
 pub means-fare : (s : List ℕ) (R : List Rec) (q : Question) (fare : ℕ) (parts : List ℕ) → IsFare s R q fare parts
@@ -276,5 +276,5 @@ means-no-fare s R rest c q n p d f = let e = cut-only s R rest c in refused-by s
 pub part-bounded : (s : List ℕ) (R : List Rec) (q : Question) (fare : ℕ) (parts : List ℕ) → IsFare s R q fare parts → (k : ℕ) → getD parts k 0 ≤ partBound (length (cardsOf q))
 part-bounded s R q fare parts f k =
     ⊎-elim
-    (λ l. rw (means-priced s R (f .good) q (legAt q k) k _ (f .leg-by-leg k l) .1) (leg-small R q (legAt q k) (f .in-limits .legs k l .fare) (f .in-limits .persons .1)))
+    (λ l. rw (means-priced s R (f .good) q (legAt q k) k (f .cards-differ) _ (f .leg-by-leg k l) .1) (leg-small R q (legAt q k) (f .in-limits .legs k l .fare) (f .in-limits .persons .1)))
     (λ l. rw (f .none-beyond k l) (omega arith)) (side k (q .count))
