@@ -1,26 +1,34 @@
 -- ONE CARD OR NONE: the base's limits, its parts and its first fault, and so its fare.
 -- Assumes nothing.
-use Prim.Native.Nat.{ℕ, zero, suc, _<_, zero-le}
-use mathlib.Core.Path.{_≡_, refl, sym, _∙_, ap, ap₂}
+use Prim.Native.Nat.{ℕ, zero, suc, _-_, _*_, _<_, zero-le}
+use mathlib.Core.Path.{_≡_, refl, sym, _∙_, ap}
 use mathlib.Core.Bool.{Bool, true, false, cond, not, _&&_, _||_, and-true}
-use mathlib.Core.List.{List, [], _∷_, _++_}
+use mathlib.Core.List.{List, [], _∷_, _++_, append-nil, map, flatMap}
 use native.Mathlib.Omega.{arith}
-use lib.Dec.{eqb, ltb, leb}
-use lib.ListN.{length, getD}
+use lib.Dec.{eqb, leb}
+use lib.ListN.{length, getD, replicate}
 use lib.Seq.{ext-getD}
 use borrow.Author.Tests.{le-leb}
-use Rattle.common.specs.Lists.{every, any, only, sum, firstOf}
-use Rattle.common.specs.Checks.{Check, check, firstFault, eachFrom}
+use Rattle.common.specs.Lists.{every, any, only}
+use Rattle.common.specs.Rising.{insert, insertAll, rising}
+use Rattle.common.specs.Checks.{firstFault}
 use Rattle.common.proofs.Lists.{first-length, first-at}
 use Rattle.common.proofs.Checks.{fault-append}
-use Rattle.bundle.specs.Records.{Rec, recordsOf}
+use Rattle.layout.specs.Layout.{CO, AR}
+use Rattle.layout.specs.Fields.{isYes}
+use Rattle.bundle.specs.Records.{Rec, noRec, recordsOf}
+use Rattle.bundle.specs.Choice.{choiceOf}
 use Rattle.bundle.specs.Verdict.{checks}
+use Rattle.bundle.specs.declared.choice.Choice.{Choice}
+use Rattle.bundle.specs.declared.choice.Choice.the-variants.{At, NotThatDay, Nothing}
 use Rattle.fares.specs.Question.{between, legsOf, isGiven, cardSlots, cardsOf, cardsInLimits, cardsDiffer, inLimits}
-use Rattle.fares.specs.Reductions.{partBound}
-use Rattle.fares.specs.Legs.{chosen, legChecks, partBy}
-use Rattle.fares.specs.Fare.{partsOf, mostFare, priceChecks, fareChecks, fareOf}
+use Rattle.fares.specs.Reductions.{conditionsGrant, cardGrants, reduceBy, reduceAll, partBound}
+use Rattle.fares.specs.Cards.{isTogether, rankOf, ifAny, leastFrom, leastOr, afterCards}
+use Rattle.fares.specs.Legs.{wantedFor, conditionsFor, found, bodies, bodyOf, cardFor, cardsFor, partBy, partOf}
+use Rattle.fares.specs.Fare.{partsOf, priceChecks, fareChecks, fareOf}
 use Rattle.fares.specs.Meaning.{cardAt}
 use Rattle.fares.specs.OneCard.{OneCard, baseInLimits, basePart, baseParts, basePrice, baseChecks, baseFare, baseBound}
+use Rattle.fares.specs.declared.Leg.{Leg}
 use Rattle.fares.specs.declared.Question.{Question}
 
 -- the first slot decides
@@ -68,10 +76,44 @@ module _ (q : Question) (o : OneCard q) where
       go true = refl
       go false = refl
 
-  -- ITS PARTS
+  -- ITS PARTS: the record of the one card alone is found,
+  module _ (R : List Rec) (leg : Leg) where
+    one-found : cardsFor R q leg ≡ found (cardFor R q leg (cardAt q 0))
+    unfolding cardsFor flatMap
+    one-found = rw slots-are (append-nil (found (cardFor R q leg (cardAt q 0))))
+
+    -- it is the one choice whichever its flag is,
+    one-choice : (amount : ℕ) (c : Choice) → afterCards amount (bodies R (found c)) ≡ reduceAll amount (map cardGrants (bodies R (found c)))
+    unfolding afterCards leastFrom only insertAll insert reduceAll
+    one-choice amount (At i) = go (isTogether (getD R i noRec .body))
+      where
+        go : (b : Bool) → let ar = getD R i noRec .body in
+            leastOr amount (ifAny amount (rising rankOf (cond b (ar ∷ []) [])) ++ map (λ ar. reduceBy amount (cardGrants ar)) (cond (not b) (ar ∷ []) []))
+            ≡ reduceBy amount (cardGrants ar)
+        go true = refl
+        go false = refl
+    one-choice amount NotThatDay = refl
+    one-choice amount Nothing = refl
+
+    -- and so is the part
+    part-is : partOf R q leg ≡ basePart R q leg
+    unfolding partBy basePart reduceAll
+    part-is = ap (_* q .persons) (go (isYes CO 33 co))
+      where
+        co : List ℕ
+        co = bodyOf R (conditionsFor R q leg)
+
+        amount : ℕ
+        amount = reduceBy (leg .fare) (conditionsGrant co)
+
+        go : (y : Bool) → afterCards amount (bodies R (cond y (cardsFor R q leg) []))
+            ≡ reduceAll amount (map cardGrants (bodies R (found (cond (y && isGiven (cardAt q 0)) (choiceOf R (wantedFor AR (cardAt q 0) q leg)) Nothing))))
+        go true = rw one-found (one-choice amount (cardFor R q leg (cardAt q 0)))
+        go false = one-choice amount Nothing
+
   pub parts-are : (R : List Rec) → partsOf R q ≡ baseParts R q
-  unfolding partsOf baseParts basePart chosen partBy
-  parts-are R = refl
+  unfolding partsOf baseParts
+  parts-are R = λ j. map (λ leg. part-is R leg j) (legsOf q) ++ replicate (8 - q .count) 0
 
   -- the first fault, and the fare
   module _ (s : List ℕ) where
