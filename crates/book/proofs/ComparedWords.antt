@@ -12,12 +12,20 @@ use Rattle.common.specs.Lists.{same, upTo}
 use Rattle.common.proofs.Lists.{upto-at, upto-same, is-same, same-is}
 use Rattle.common.proofs.Tests.{refuted}
 use Rattle.fares.specs.Question.{noLeg}
+use Rattle.fares.specs.Meaning.{cardAt}
 use Rattle.fares.specs.declared.Question.{Question}
-use Rattle.book.specs.Words.{offerAt, dayAt, cardsAt, countAt, personsAt, legAt, legOf, questionWords}
+use Rattle.book.specs.Words.{offerAt, dayAt, cardsWidth, countAt, personsAt, cardWords, legAt, cardIn, legOf, questionWords}
 use Rattle.book.specs.SameQuestion.{SameQuestion}
 
--- a leg as the words say it, and one that is used
+-- a card as the words say it, a leg, and one that is used
 module _ (q : Question) where
+  cards-said : upTo (cardIn (questionWords q)) cardsWidth ≡ cardWords q
+  unfolding questionWords upTo
+  cards-said = refl
+
+  pub card-said : (k : ℕ) → k < 4 → cardIn (questionWords q) k ≡ cardAt q k
+  card-said k m = sym (upto-at (cardIn (questionWords q)) cardsWidth k 0 m) ∙ (ap (λ cards. getD cards k 0) cards-said ∙ upto-at (cardAt q) cardsWidth k 0 m)
+
   legs-said : upTo (legOf (questionWords q)) 8 ≡ upTo (legAt q) 8
   unfolding questionWords upTo flatMap
   legs-said = refl
@@ -31,7 +39,7 @@ module _ (q : Question) where
 module _ (q q′ : Question) where
   module _ (few : q .count ≤ 8) (e : questionWords q ≡ questionWords q′) where
     same-count : q .count ≡ q′ .count
-    unfolding questionWords
+    unfolding questionWords upTo
     same-count = ap (λ ws. getD ws countAt 0) e
 
     same-leg : (k : ℕ) → k < q .count → getD (q .legs) k noLeg ≡ getD (q′ .legs) k noLeg
@@ -40,13 +48,13 @@ module _ (q q′ : Question) where
         sym (used-said q k l m) ∙ (ap (λ ws. legOf ws k) e ∙ used-said q′ k (omega (arith, same-count)) m)
 
     words-mean : SameQuestion q q′
-    unfolding questionWords
+    unfolding questionWords upTo
     words-mean =
         record {
           offer = ap (λ ws. getD ws offerAt 0) e;
           day = ap (λ ws. getD ws dayAt 0) e;
           persons = ap (λ ws. getD ws personsAt 0) e;
-          card = ap (λ ws. getD ws cardsAt 0) e;
+          cards = λ k l. sym (card-said q k l) ∙ (ap (λ ws. cardIn ws k) e ∙ card-said q′ k l);
           count = same-count;
           railways = λ k l. ap (λ leg. leg .railway) (same-leg k l);
           fares = λ k l. ap (λ leg. leg .fare) (same-leg k l);
@@ -64,7 +72,7 @@ module _ (q q′ : Question) where
 
     mean-words : questionWords q ≡ questionWords q′
     unfolding questionWords
-    mean-words = rw (legs-alike, s .offer, s .day, s .card, s .count, s .persons)
+    mean-words = rw (legs-alike, upto-same (cardAt q) (cardAt q′) cardsWidth (s .cards), s .offer, s .day, s .count, s .persons)
 
   -- THE SAME QUESTION, both ways
   pub same-words : SameQuestion q q′ → same (questionWords q) (questionWords q′) ≡ true

@@ -1,6 +1,6 @@
 -- The check of an entry finds what a sound sale is: value by value, both ways.
 -- Assumes nothing.
-use Prim.Native.Nat.{ℕ, _+_, _-_, _≤_, _<_}
+use Prim.Native.Nat.{ℕ, _+_, _-_, _≤_, _<_, zero-le}
 use mathlib.Core.Path.{_≡_, refl, sym, _∙_, ap, subst}
 use mathlib.Core.Bool.{true}
 use mathlib.Core.List.{List}
@@ -10,21 +10,22 @@ use lib.Dec.{leb}
 use lib.ListN.{length, getD, drop, length-take, length-drop}
 use lib.Seq.{ext-getD, getD-take, getD-drop}
 use borrow.Author.Tests.{leb-true, le-leb, eq-eqb}
-use Rattle.common.specs.Lists.{every}
-use Rattle.common.proofs.Lists.{every-at, every-by, zero-at, is-same, upto-at}
+use Rattle.common.specs.Lists.{every, only, upTo}
+use Rattle.common.proofs.Lists.{every-at, every-by, zero-at, is-same, upto-length, upto-at, first-length, first-at}
 use Rattle.common.proofs.Tests.{order, side, both-true, in-range}
-use Rattle.fares.specs.Question.{between, noLeg, inLimits}
+use Rattle.fares.specs.Question.{between, noLeg, isGiven, cardSlots, cardsDiffer, inLimits}
 use Rattle.fares.specs.Reductions.{partBound}
-use Rattle.fares.specs.Meaning.{LegInLimits, legAt, InLimits}
+use Rattle.fares.specs.Meaning.{LegInLimits, legAt, cardAt, InLimits}
+use Rattle.fares.proofs.CardSlots.{differ-means, means-differ}
 use Rattle.fares.proofs.QuestionLimits.{limits-mean, means-limits}
 use Rattle.fares.specs.declared.Question.{Question}
-use Rattle.book.specs.Words.{Entry, offerAt, dayAt, cardsAt, countAt, personsAt, railwayAt, fareAt, legOf, questionWidth, questionOf, questionWords, sequenceAt, askedAt, partsAt, statusAt, spareAt, width, entryOf}
-use Rattle.book.specs.Sound.{isZero, numberInLimits, askedSound, entrySound}
-use Rattle.book.specs.Meaning.{Within, word, askedWord, Used, till, sequence, offer, day, persons, card, count, railway, fare, part, status, SoundSale}
+use Rattle.book.specs.Words.{Entry, offerAt, dayAt, cardsAt, countAt, personsAt, railwayAt, fareAt, cardIn, legOf, questionWidth, questionOf, questionWords, sequenceAt, askedAt, partsAt, statusAt, spareAt, width, entryOf}
+use Rattle.book.specs.Sound.{isZero, numberInLimits, askedSound, boundOf, isBounded, entrySound}
+use Rattle.book.specs.Meaning.{Within, word, askedWord, cardsIn, Used, till, sequence, offer, day, persons, card, count, railway, fare, part, status, SoundSale}
 use Rattle.book.proofs.QuestionPlaces.{places, used-again}
 use Rattle.book.proofs.QuestionWords.{words-length, asked-again}
 use Rattle.book.proofs.EntryWords.{asked-at, part-at, count-at}
-use Rattle.book.proofs.SoundBook.{SoundEntry, sound-entry, asked-limits, no-part}
+use Rattle.book.proofs.SoundBook.{SoundEntry, sound-entry, asked-limits, asked-differ, no-part}
 
 module _ (b : List ℕ) (long : length b ≡ width) where
   abbrev e : Entry
@@ -48,6 +49,21 @@ module _ (b : List ℕ) (long : length b ≡ width) where
   leg-is : (k : ℕ) → k < 8 → legAt q k ≡ legOf ws k
   unfolding questionOf
   leg-is k l = upto-at (legOf ws) 8 k noLeg l
+
+  -- a card, and the bound by how many there are
+  card-is : (k : ℕ) → k < 4 → cardAt q k ≡ askedWord b (cardsAt + k)
+  unfolding questionOf
+  card-is k l = upto-at (cardIn ws) 4 k 0 l ∙ asked-at b (cardsAt + k) (omega arith)
+
+  slots-are : cardSlots q ≡ upTo (λ k. askedWord b (cardsAt + k)) 4
+  slots-are =
+      let n = first-length 0 4 (q .cards) in
+      let own : ℕ → ℕ = λ k. askedWord b (cardsAt + k) in
+      ext-getD 0 (cardSlots q) (upTo own 4) (n ∙ sym (upto-length own 4))
+      (λ k m. let l : k < 4 = omega (arith, n) in first-at 0 4 (q .cards) k l ∙ (card-is k l ∙ sym (upto-at own 4 k 0 l)))
+
+  bound-is : boundOf q ≡ partBound (cardsIn b)
+  bound-is = ap (λ cards. partBound (length (only isGiven cards))) slots-are
 
   -- FOUND SOUND, an entry is a sound sale
   module _ (g : entrySound e ≡ true) where
@@ -100,13 +116,17 @@ module _ (b : List ℕ) (long : length b ≡ width) where
           offer = rw (asked-at b offerAt (omega arith)) at (asked .offer);
           day = rw (asked-at b dayAt (omega arith)) at (asked .day);
           persons = rw (asked-at b personsAt (omega arith)) at (asked .persons);
-          card = rw (asked-at b cardsAt (omega arith)) at (asked .card);
+          cards = λ k l. rw (card-is k l) at (asked .cards k l);
+          used-first = λ j k m l z. sym (card-is k l) ∙ asked .used-first j k m l (card-is j (omega arith) ∙ z);
+          cards-differ = λ j k m l z.
+              let i : j < 4 = omega arith in
+              sym (card-is j i) ∙ differ-means q (asked-differ ws (s .asked-well)) j k m l (card-is j i ∙ (z ∙ sym (card-is k l)));
           count = rw (asked-at b countAt (omega arith)) at (asked .count);
           railways = λ k l. rw (asked-at b (railwayAt k) (omega (arith, few))) at (leg k l .railway);
           fares = λ k l. rw (asked-at b (fareAt k) (omega (arith, few))) at (leg k l .fare);
           parts = λ k l.
-              let h = every-at (λ p. leb p partBound) (e .parts) (s .bounded) k 0 (omega (arith, few, parts-long)) in
-              rw (part-at b k (omega (arith, few))) at (leb-true (getD (e .parts) k 0) partBound h);
+              let h = every-at (λ p. leb p (boundOf q)) (e .parts) (s .bounded) k 0 (omega (arith, few, parts-long)) in
+              rw (part-at b k (omega (arith, few)), bound-is) at (leb-true (getD (e .parts) k 0) (boundOf q) h);
           status = leb-true (e .status) 1 (s .live-or-not);
           unused = in-entry;
         }
@@ -135,10 +155,16 @@ module _ (b : List ℕ) (long : length b ≡ width) where
           offer = rw (asked-at b offerAt (omega arith)) (s .offer);
           day = rw (asked-at b dayAt (omega arith)) (s .day);
           persons = rw (asked-at b personsAt (omega arith)) (s .persons);
-          card = rw (asked-at b cardsAt (omega arith)) (s .card);
+          cards = λ k l. rw (card-is k l) (s .cards k l);
+          used-first = λ j k m l z. card-is k l ∙ s .used-first j k m l (sym (card-is j (omega arith)) ∙ z);
           count = rw said-count (s .count);
           legs = λ k l. rw (leg-is k (omega (arith, few-said))) (leg-found k (omega (arith, said-count)) (omega (arith, few-said)));
         })
+
+    differ-found : cardsDiffer (cardSlots q) ≡ true
+    differ-found =
+        means-differ q
+        (λ j k m l z. let i : j < 4 = omega arith in card-is j i ∙ s .cards-differ j k m l (sym (card-is j i) ∙ (z ∙ card-is k l)))
 
     -- the words are those of the question that they say: a place is used, or it is zero in both
     word-again : (r : ℕ) → r < questionWidth → getD ws r 0 ≡ getD (questionWords q) r 0
@@ -154,7 +180,7 @@ module _ (b : List ℕ) (long : length b ≡ width) where
     asked-found =
         let k : length ws ≡ questionWidth = rw (length-take, length-drop) (omega arith) in
         let i : ws ≡ questionWords q = ext-getD 0 ws (questionWords q) (k ∙ sym (words-length q)) (λ r l. word-again r (omega arith)) in
-        rw (limits-found, is-same ws (questionWords q) i)
+        rw (limits-found, differ-found, is-same ws (questionWords q) i)
 
     -- behind the parts of the legs only the status is used
     behind : (p : ℕ) → partsAt + n ≤ p → p < width → (p ≡ statusAt → ⊥) → word b p ≡ 0
@@ -166,7 +192,7 @@ module _ (b : List ℕ) (long : length b ≡ width) where
         unless-used (offer i) = absurd (omega arith)
         unless-used (day i) = absurd (omega arith)
         unless-used (persons i) = absurd (omega arith)
-        unless-used (card i) = absurd (omega arith)
+        unless-used (card k m i) = absurd (omega arith)
         unless-used (count i) = absurd (omega arith)
         unless-used (railway k m i) = absurd (omega (arith, s .count))
         unless-used (fare k m i) = absurd (omega (arith, s .count))
@@ -176,12 +202,13 @@ module _ (b : List ℕ) (long : length b ≡ width) where
     no-part-at : (k : ℕ) → n ≤ k → k < 8 → getD (e .parts) k 0 ≡ 0
     no-part-at k h l = part-at b k l ∙ behind (partsAt + k) (omega arith) (omega arith) (λ i. omega arith)
 
-    bounded-found : every (λ p. leb p partBound) (e .parts) ≡ true
+    bounded-found : isBounded (boundOf q) (e .parts) ≡ true
     bounded-found =
-        every-by (λ p. leb p partBound) 0 (e .parts)
+        rw bound-is
+        (every-by (λ p. leb p (partBound (cardsIn b))) 0 (e .parts)
         (λ k l. let m : k < 8 = omega (arith, parts-long) in
-        le-leb (getD (e .parts) k 0) partBound
-        (⊎-elim (λ h. rw (part-at b k m) (s .parts k h)) (λ h. omega (arith, no-part-at k h m)) (side k n)))
+        le-leb (getD (e .parts) k 0) (partBound (cardsIn b))
+        (⊎-elim (λ h. rw (part-at b k m) (s .parts k h)) (λ h. rw (no-part-at k h m) zero-le) (side k n))))
 
     unused-found : every isZero (drop (q .count) (e .parts)) ≡ true
     unused-found =

@@ -13,9 +13,9 @@ use Rattle.common.proofs.Lists.{upto-at}
 use Rattle.common.proofs.Tests.{order, side}
 use Rattle.fares.specs.Question.{noLeg}
 use Rattle.fares.specs.declared.Question.{Question}
-use Rattle.book.specs.Words.{offerAt, dayAt, cardsAt, cardsWidth, countAt, pairsAt, pairsWidth, personsAt, legsAt, legWidth, questionWidth, railwayAt, fareAt, legOf, questionWords, questionOf, askedAt}
+use Rattle.book.specs.Words.{offerAt, dayAt, cardsAt, cardsWidth, countAt, pairsAt, pairsWidth, personsAt, legsAt, legWidth, questionWidth, railwayAt, fareAt, cardIn, legOf, questionWords, questionOf, askedAt}
 use Rattle.book.specs.Meaning.{Used, till, sequence, offer, day, persons, card, count, railway, fare, part, status}
-use Rattle.book.proofs.ComparedWords.{leg-said, used-said}
+use Rattle.book.proofs.ComparedWords.{card-said, leg-said, used-said}
 
 -- what is zero in a row
 zeros : (f : ℕ → ℕ) (m : ℕ) → upTo f m ≡ upTo (λ k. 0) m → (k : ℕ) → k < m → f k ≡ 0
@@ -25,13 +25,9 @@ module _ (q : Question) where
   abbrev pub Place : ℕ → Type 0
   Place r = Used (q .count) (askedAt + r) ⊎ (getD (questionWords q) r 0 ≡ 0)
 
-  -- before the legs: further cards, the category, and further pairs are zero
-  more-cards : (k : ℕ) → k < cardsWidth - 1 → getD (questionWords q) (cardsAt + 1 + k) 0 ≡ 0
-  unfolding questionWords upTo
-  more-cards = zeros (λ k. getD (questionWords q) (cardsAt + 1 + k) 0) (cardsWidth - 1) refl
-
+  -- before the legs: the category, and further pairs are zero
   category : getD (questionWords q) pairsAt 0 ≡ 0
-  unfolding questionWords
+  unfolding questionWords upTo
   category = refl
 
   more-pairs : (k : ℕ) → k < pairsWidth - 2 → getD (questionWords q) (pairsAt + 2 + k) 0 ≡ 0
@@ -65,8 +61,7 @@ module _ (q : Question) where
       first : r < countAt → Place r
       first a =
           ⊎-elim (λ h. ⊎-elim (λ b. inl (offer (omega arith))) (λ b. inl (day (omega arith))) (side r dayAt))
-          (⊎-elim (λ e. inl (card (omega arith))) (λ h. at-zero (cardsAt + 1 + (r - (cardsAt + 1))) (omega arith) (more-cards (r - (cardsAt + 1)) (omega arith))))
-          (order r cardsAt)
+          (λ h. inl (card (r - cardsAt) (omega arith) (omega arith))) (side r cardsAt)
 
       last : countAt < r → Place r
       last a =
@@ -105,6 +100,10 @@ module _ (ws : List ℕ) (few : questionOf ws .count ≤ 8) where
   abbrev said : Question
   said = questionOf ws
 
+  card-again : (k : ℕ) → k < 4 → cardIn (questionWords said) k ≡ cardIn ws k
+  unfolding questionOf
+  card-again k l = card-said said k l ∙ upto-at (cardIn ws) cardsWidth k 0 l
+
   leg-again : (k : ℕ) → k < said .count → legOf (questionWords said) k ≡ legOf ws k
   unfolding questionOf
   leg-again k l =
@@ -112,13 +111,13 @@ module _ (ws : List ℕ) (few : questionOf ws .count ≤ 8) where
       used-said said k l m ∙ upto-at (legOf ws) 8 k noLeg m
 
   pub used-again : (r : ℕ) → r < questionWidth → Used (said .count) (askedAt + r) → getD (questionWords said) r 0 ≡ getD ws r 0
-  unfolding questionWords questionOf
+  unfolding questionWords questionOf upTo
   used-again r l (till e) = absurd (omega arith)
   used-again r l (sequence e) = absurd (omega arith)
   used-again r l (offer e) = let i : r ≡ offerAt = omega arith in rw i
   used-again r l (day e) = let i : r ≡ dayAt = omega arith in rw i
   used-again r l (persons e) = let i : r ≡ personsAt = omega arith in rw i
-  used-again r l (card e) = let i : r ≡ cardsAt = omega arith in rw i
+  used-again r l (card k h e) = let i : r ≡ cardsAt + k = omega arith in rw i (card-again k h)
   used-again r l (count e) = let i : r ≡ countAt = omega arith in rw i
   used-again r l (railway k h e) = let i : r ≡ railwayAt k = omega arith in rw i (ap (λ leg. leg .railway) (leg-again k h))
   used-again r l (fare k h e) = let i : r ≡ fareAt k = omega arith in rw i (ap (λ leg. leg .fare) (leg-again k h))

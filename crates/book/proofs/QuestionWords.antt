@@ -3,7 +3,7 @@
 -- Assumes nothing.
 use Prim.Native.Nat.{ℕ, suc, _+_, _-_, _*_, _≤_, _<_}
 use mathlib.Core.Path.{_≡_, refl, sym, _∙_, ap}
-use mathlib.Core.Bool.{Bool, true, false, cond}
+use mathlib.Core.Bool.{Bool, true, false, cond, _&&_}
 use mathlib.Core.List.{List, [], _∷_, _++_, flatMap, append-assoc}
 use native.Mathlib.Omega.{arith}
 use lib.Dec.{ltb}
@@ -13,17 +13,18 @@ use borrow.Author.Tests.{lt-ltb}
 use Rattle.common.specs.Lists.{same, upTo}
 use Rattle.common.proofs.Lists.{upto-length, upto-at, upto-same, upto-more, first-length, first-at, is-same, same-is}
 use Rattle.common.proofs.Tests.{both-true}
-use Rattle.fares.specs.Question.{noLeg, legsOf, inLimits}
+use Rattle.fares.specs.Question.{noLeg, legsOf, cardSlots, cardsDiffer, inLimits}
+use Rattle.fares.specs.Meaning.{cardAt}
 use Rattle.fares.specs.declared.Leg.{Leg}
 use Rattle.fares.specs.declared.Question.{Question}
 use Rattle.fares.proofs.FareLaws.{asked}
-use Rattle.book.specs.Words.{cardWords, pairWords, legAt, legWords, legWidth, railwayAt, fareAt, questionWords, questionOf, questionWidth}
-use Rattle.book.specs.Sound.{askedSound}
+use Rattle.book.specs.Words.{cardsWidth, cardWords, pairWords, legAt, legWords, legWidth, railwayAt, fareAt, questionWords, questionOf, questionWidth}
+use Rattle.book.specs.Sound.{askedSound, boundOf}
 
 module _ (q : Question) where
   -- the question as its words say it
   abbrev pub kept : Question
-  kept = record { offer = q .offer; day = q .day; persons = q .persons; card = q .card; count = q .count; legs = upTo (legAt q) 8 }
+  kept = record { offer = q .offer; day = q .day; persons = q .persons; cards = cardWords q; count = q .count; legs = upTo (legAt q) 8 }
 
   pub said : questionOf (questionWords q) ≡ kept
   unfolding questionOf questionWords upTo flatMap
@@ -43,9 +44,23 @@ module _ (q : Question) where
   same-legs : upTo (legAt kept) 8 ≡ upTo (legAt q) 8
   same-legs = upto-same (legAt kept) (legAt q) 8 (λ j l. rw (upto-at (legAt q) 8 j noLeg l) (twice (ltb j (q .count)) (getD (q .legs) j noLeg)))
 
+  same-cards : cardWords kept ≡ cardWords q
+  unfolding upTo
+  same-cards = refl
+
+  pub slots-kept : cardSlots kept ≡ cardSlots q
+  slots-kept =
+      let n = first-length {A = ℕ} 0 4 in
+      ext-getD 0 (cardSlots kept) (cardSlots q) (n (kept .cards) ∙ sym (n (q .cards)))
+      (λ k m. let l : k < 4 = omega (arith, n (kept .cards)) in
+      first-at 0 4 (kept .cards) k l ∙ (upto-at (cardAt q) cardsWidth k 0 l ∙ sym (first-at 0 4 (q .cards) k l)))
+
   pub words-again : questionWords (questionOf (questionWords q)) ≡ questionWords q
   unfolding questionWords
-  words-again = ap questionWords said ∙ rw same-legs
+  words-again = ap questionWords said ∙ rw (same-cards, same-legs)
+
+  pub said-bound : boundOf (questionOf (questionWords q)) ≡ boundOf q
+  said-bound = rw (said, slots-kept)
 
   legs-asked : q .count ≤ 8 → legsOf kept ≡ legsOf q
   legs-asked h =
@@ -55,15 +70,18 @@ module _ (q : Question) where
       first-at noLeg (q .count) (kept .legs) j l
       ∙ (upto-at (legAt q) 8 j noLeg (omega arith) ∙ rw (lt-ltb j (q .count) l) (sym (first-at noLeg (q .count) (q .legs) j l))))
 
-  pub asked-sound : inLimits q ≡ true → askedSound (questionWords q) ≡ true
+  pub asked-sound : inLimits q ≡ true → cardsDiffer (cardSlots q) ≡ true → askedSound (questionWords q) ≡ true
   unfolding inLimits
-  asked-sound e =
-      let l : inLimits kept ≡ true = rw (legs-asked (asked q e .few)) e in
-      rw (said, l, is-same (questionWords q) (questionWords kept) (sym words-again ∙ ap questionWords said))
+  asked-sound e d =
+      let l : inLimits kept ≡ true = rw (slots-kept, legs-asked (asked q e .few)) e in
+      rw (said, l, slots-kept, d, is-same (questionWords q) (questionWords kept) (sym words-again ∙ ap questionWords said))
 
 -- and words that are sound are those of the question that they say
 pub asked-again : (ws : List ℕ) → askedSound ws ≡ true → questionWords (questionOf ws) ≡ ws
-asked-again ws e = sym (same-is ws (questionWords (questionOf ws)) (both-true (inLimits (questionOf ws)) (same ws (questionWords (questionOf ws))) e .1))
+asked-again ws e =
+    let q = questionOf ws in
+    let own = same ws (questionWords q) in
+    sym (same-is ws (questionWords q) (both-true (cardsDiffer (cardSlots q)) own (both-true (inLimits q) (cardsDiffer (cardSlots q) && own) e .1) .1))
 
 -- AS THEY ARE WRITTEN: the words before the legs, the legs so far, and zeros
 abbrev pub written : Question → ℕ → List ℕ
@@ -92,6 +110,7 @@ leg-set p z n leg e =
 
 pub leg-written : (q : Question) (j : ℕ) {leg : Leg} {ws : List ℕ} → j < 8 → leg ≡ legAt q j → ws ≡ written q j
     → set (set ws (railwayAt j) (leg .railway)) (fareAt j) (leg .fare) ≡ written q (j + 1)
+unfolding upTo
 leg-written q j {leg} l e i =
     let first = q .offer ∷ q .day ∷ (cardWords q ++ (q .count ∷ pairWords q)) in
     let z : List ℕ = replicate ((8 - (j + 1)) * legWidth) 0 in

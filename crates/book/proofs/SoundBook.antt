@@ -2,7 +2,7 @@
 -- Assumes nothing.
 use Prim.Native.Nat.{ℕ, _+_, _-_, _≤_, _<_}
 use mathlib.Core.Path.{_≡_, sym, _∙_, ap}
-use mathlib.Core.Bool.{true}
+use mathlib.Core.Bool.{true, _&&_}
 use mathlib.Core.List.{List}
 use native.Mathlib.Omega.{arith}
 use lib.Dec.{leb}
@@ -12,11 +12,10 @@ use borrow.Author.Tests.{eqb-true, leb-true, eq-eqb, le-leb}
 use Rattle.common.specs.Lists.{every, same}
 use Rattle.common.proofs.Tests.{both-true}
 use Rattle.common.proofs.Lists.{every-at, zero-at, upto-length, upto-at, first-length, first-at}
-use Rattle.fares.specs.Question.{between, noLeg, legsOf, legInLimits, limitsOf, inLimits}
-use Rattle.fares.specs.Reductions.{partBound}
+use Rattle.fares.specs.Question.{between, noLeg, legsOf, legInLimits, cardSlots, cardsDiffer, limitsOf, inLimits}
 use Rattle.fares.proofs.FareLaws.{asked as asked-of}
 use Rattle.book.specs.Words.{Entry, noEntry, capacity, bookLength, startOf, countOf, entries, entryAt, legOf, questionOf, questionWords}
-use Rattle.book.specs.Sound.{isZero, numberInLimits, askedSound, entrySound, numbersDiffer, soundWords}
+use Rattle.book.specs.Sound.{isZero, numberInLimits, askedSound, boundOf, isBounded, entrySound, numbersDiffer, soundWords}
 
 pub record IsSound (w : List ℕ) : Type 0 where
   pub long : length w ≡ bookLength
@@ -43,7 +42,7 @@ sound-is w s = rw (eq-eqb (length w) bookLength (s .long), le-leb (countOf w) ca
 pub record SoundEntry (e : Entry) : Type 0 where
   pub number : numberInLimits (e .till) (e .sequence) ≡ true
   pub asked-well : askedSound (e .asked) ≡ true
-  pub bounded : every (λ p. leb p partBound) (e .parts) ≡ true
+  pub bounded : isBounded (boundOf (questionOf (e .asked))) (e .parts) ≡ true
   pub unused : every isZero (drop (questionOf (e .asked) .count) (e .parts)) ≡ true
   pub live-or-not : leb (e .status) 1 ≡ true
   pub spared : every isZero (e .spare) ≡ true
@@ -60,9 +59,15 @@ sound-entry e g =
       spared = every-at (λ b. b) _ g 5 true (omega arith);
     }
 
--- the question of a sound entry, its leg count and its legs
+-- the question of a sound entry, its cards, its leg count and its legs
+asked-tests : (ws : List ℕ) → askedSound ws ≡ true → let q = questionOf ws in (inLimits q ≡ true) × ((cardsDiffer (cardSlots q) && same ws (questionWords q)) ≡ true)
+asked-tests ws e = let q = questionOf ws in both-true (inLimits q) (cardsDiffer (cardSlots q) && same ws (questionWords q)) e
+
 pub asked-limits : (ws : List ℕ) → askedSound ws ≡ true → inLimits (questionOf ws) ≡ true
-asked-limits ws e = both-true (inLimits (questionOf ws)) (same ws (questionWords (questionOf ws))) e .0
+asked-limits ws e = asked-tests ws e .0
+
+pub asked-differ : (ws : List ℕ) → askedSound ws ≡ true → cardsDiffer (cardSlots (questionOf ws)) ≡ true
+asked-differ ws e = both-true (cardsDiffer (cardSlots (questionOf ws))) (same ws (questionWords (questionOf ws))) (asked-tests ws e .1) .0
 
 pub few-legs : (ws : List ℕ) → askedSound ws ≡ true → questionOf ws .count ≤ 8
 few-legs ws e = asked-of (questionOf ws) (asked-limits ws e) .few

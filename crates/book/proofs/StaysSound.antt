@@ -5,19 +5,17 @@ use mathlib.Core.Path.{_≡_, refl, sym, _∙_, ap}
 use mathlib.Core.Bool.{Bool, true, false, cond}
 use mathlib.Core.List.{List, [], _∷_, map}
 use native.Mathlib.Omega.{arith}
-use lib.Dec.{leb}
 use lib.ListN.{length, getD, drop, set, length-map, length-set}
 use lib.Seq.{getD-set-other, drop-set-lt}
 use Rattle.common.specs.Lists.{every}
 use Rattle.common.proofs.Lists.{every-append, every-map, set-map}
 use Rattle.common.proofs.Sums.{map-at}
-use Rattle.fares.specs.Question.{inLimits}
-use Rattle.fares.specs.Reductions.{partBound}
+use Rattle.fares.specs.Question.{cardSlots, cardsDiffer, inLimits}
 use Rattle.fares.specs.declared.Question.{Question}
 use Rattle.book.specs.Words.{Entry, noEntry, capacity, startOf, statusAt, countOf, entries, booking}
-use Rattle.book.specs.Sound.{isZero, numberInLimits, entrySound, hasNumber, heldAt, numbersDiffer}
+use Rattle.book.specs.Sound.{isZero, numberInLimits, boundOf, isBounded, entrySound, hasNumber, heldAt, numbersDiffer}
 use Rattle.book.specs.Changes.{added, cancelledAt}
-use Rattle.book.proofs.QuestionWords.{said-count, asked-sound}
+use Rattle.book.proofs.QuestionWords.{said-count, said-bound, asked-sound}
 use Rattle.book.proofs.EntryWords.{cancelledEntry, Whole}
 use Rattle.book.proofs.NumbersDiffer.{apart, differ-by, held-here, held-not-elsewhere, added-differ}
 use Rattle.book.proofs.SoundBook.{IsSound, sound-entry, entry-is, entries-length}
@@ -25,9 +23,9 @@ use Rattle.book.proofs.ChangedEntries.{added-count, entries-added, adde
 
 -- A BOOKING is a sound entry, and one more such entry with a new number leaves the book sound
 pub booking-sound : (t s : ℕ) (q : Question) (parts : List ℕ) → numberInLimits t s ≡ true → inLimits q ≡ true
-    → every (λ p. leb p partBound) parts ≡ true → every isZero (drop (q .count) parts) ≡ true → entrySound (booking t s q parts) ≡ true
+    → cardsDiffer (cardSlots q) ≡ true → isBounded (boundOf q) parts ≡ true → every isZero (drop (q .count) parts) ≡ true → entrySound (booking t s q parts) ≡ true
 unfolding entrySound every
-booking-sound t s q parts n l b z = rw (n, asked-sound q l, b, said-count q, z)
+booking-sound t s q parts n l d b z = rw (n, asked-sound q l d, said-bound q, b, said-count q, z)
 
 module _ (w : List ℕ) (s : IsSound w) (e : Entry) (room : countOf w < capacity) (h : Whole e) (good : entrySound e ≡ true)
     (new-number : heldAt (e .till) (e .sequence) (entries w) ≡ length (entries w)) where

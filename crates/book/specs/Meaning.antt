@@ -1,12 +1,15 @@
 -- WHAT A SOUND BOOK IS, value by value (document 01, 'The sales book': "A book is sound if its count is at most 256, its numbers differ, its fields are in
--- the limits above, parts are within the bound, and unused places are zero"; the limits of a question are those of 'Pricing').
+-- the limits above, parts are within the bound, and unused places are zero"; the limits of a question are those of 'Pricing', and its cards differ).
 -- Assumes nothing.
-use Prim.Native.Nat.{ℕ, _+_, _≤_, _<_}
+use Prim.Native.Nat.{ℕ, _+_, _*_, _≤_, _<_}
 use mathlib.Core.Path.{_≡_}
 use mathlib.Core.List.{List}
 use mathlib.Core.Logic.{_⊎_}
 use lib.ListN.{length, getD}
+use Rattle.common.specs.Lists.{only, upTo}
 use Rattle.layout.specs.Calendar.{RealDay}
+use Rattle.fares.specs.Question.{isGiven}
+use Rattle.fares.specs.Reductions.{greater}
 use Rattle.book.specs.Words.{offerAt, dayAt, cardsAt, countAt, personsAt, railwayAt, fareAt, tillAt, sequenceAt, askedAt, partsAt, statusAt, width, bookLength, countOf, startOf, entryWords}
 
 abbrev pub Within : ℕ → ℕ → ℕ → Type 0
@@ -19,6 +22,10 @@ word ws p = getD ws p 0
 abbrev pub askedWord : List ℕ → ℕ → ℕ
 askedWord ws p = word ws (askedAt + p)
 
+-- how many of the four words for cards are not zero
+abbrev pub cardsIn : List ℕ → ℕ
+cardsIn ws = length (only isGiven (upTo (λ k. askedWord ws (cardsAt + k)) 4))
+
 -- the places that the sale of n legs uses
 pub data Used (n p : ℕ) : Type 0 where
   till : p ≡ tillAt → Used n p
@@ -26,7 +33,7 @@ pub data Used (n p : ℕ) : Type 0 where
   offer : p ≡ askedAt + offerAt → Used n p
   day : p ≡ askedAt + dayAt → Used n p
   persons : p ≡ askedAt + personsAt → Used n p
-  card : p ≡ askedAt + cardsAt → Used n p
+  card : (k : ℕ) → k < 4 → p ≡ askedAt + (cardsAt + k) → Used n p
   count : p ≡ askedAt + countAt → Used n p
   railway : (k : ℕ) → k < n → p ≡ askedAt + railwayAt k → Used n p
   fare : (k : ℕ) → k < n → p ≡ askedAt + fareAt k → Used n p
@@ -39,11 +46,14 @@ pub record SoundSale (ws : List ℕ) : Type 0 where
   pub offer : Within 1 99999 (askedWord ws offerAt)
   pub day : RealDay (askedWord ws dayAt)
   pub persons : Within 1 99 (askedWord ws personsAt)
-  pub card : askedWord ws cardsAt ≤ 999
+  -- a card 0 is none; those that are used stand first, and differ
+  pub cards : (k : ℕ) → k < 4 → askedWord ws (cardsAt + k) ≤ 999
+  pub used-first : (j k : ℕ) → j < k → k < 4 → askedWord ws (cardsAt + j) ≡ 0 → askedWord ws (cardsAt + k) ≡ 0
+  pub cards-differ : (j k : ℕ) → j < k → k < 4 → askedWord ws (cardsAt + j) ≡ askedWord ws (cardsAt + k) → askedWord ws (cardsAt + j) ≡ 0
   pub count : Within 1 8 (askedWord ws countAt)
   pub railways : (k : ℕ) → k < askedWord ws countAt → Within 1 9999 (askedWord ws (railwayAt k))
   pub fares : (k : ℕ) → k < askedWord ws countAt → askedWord ws (fareAt k) ≤ 999999
-  pub parts : (k : ℕ) → k < askedWord ws countAt → word ws (partsAt + k) ≤ 99197505
+  pub parts : (k : ℕ) → k < askedWord ws countAt → word ws (partsAt + k) ≤ 99 * (999999 + 998 * (1 + greater 1 (cardsIn ws)))
   pub status : word ws statusAt ≤ 1
   -- each other place is zero
   pub unused : (p : ℕ) → p < width → Used (askedWord ws countAt) p ⊎ (word ws p ≡ 0)

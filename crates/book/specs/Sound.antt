@@ -7,8 +7,9 @@ use lib.Dec.{eqb, leb, ltb}
 use lib.ListN.{length, getD, drop}
 use Rattle.common.specs.Least.{least}
 use Rattle.common.specs.Lists.{every, same}
-use Rattle.fares.specs.Question.{between, inLimits}
+use Rattle.fares.specs.Question.{between, cardSlots, cardsOf, cardsDiffer, inLimits}
 use Rattle.fares.specs.Reductions.{partBound}
+use Rattle.fares.specs.declared.Question.{Question}
 use Rattle.book.specs.Words.{Entry, noEntry, capacity, bookLength, startOf, countOf, entries, questionOf, questionWords}
 
 abbrev pub isZero : ℕ → Bool
@@ -18,9 +19,16 @@ isZero x = eqb x 0
 abbrev pub numberInLimits : ℕ → ℕ → Bool
 numberInLimits till sequence = between 1 65535 till && between 1 4294967295 sequence
 
--- the question's words are those of a question within its limits, so that unused places among them are zero
+-- the question's words are those of a question within its limits, with no card given twice, so that unused places among them are zero
 abbrev pub askedSound : List ℕ → Bool
-askedSound ws = inLimits (questionOf ws) && same ws (questionWords (questionOf ws))
+askedSound ws = inLimits (questionOf ws) && (cardsDiffer (cardSlots (questionOf ws)) && same ws (questionWords (questionOf ws)))
+
+-- the bound on a part, by the number of the question's own cards
+abbrev pub boundOf : Question → ℕ
+boundOf q = partBound (length (cardsOf q))
+
+abbrev pub isBounded : ℕ → List ℕ → Bool
+isBounded bound parts = every (λ p. leb p bound) parts
 
 -- "its fields are in the limits above, parts are within the bound, and unused places are zero"
 unfoldable pub entrySound : Entry → Bool
@@ -28,7 +36,7 @@ entrySound e =
     every (λ b. b) (
     numberInLimits (e .till) (e .sequence) ∷
     askedSound (e .asked) ∷
-    every (λ p. leb p partBound) (e .parts) ∷
+    isBounded (boundOf (questionOf (e .asked))) (e .parts) ∷
     every isZero (drop (questionOf (e .asked) .count) (e .parts)) ∷
     leb (e .status) 1 ∷
     every isZero (e .spare) ∷

@@ -8,6 +8,7 @@ use lib.Dec.{ltb}
 use lib.ListN.{getD, take, drop, replicate}
 use Rattle.common.specs.Lists.{upTo}
 use Rattle.fares.specs.Question.{noLeg}
+use Rattle.fares.specs.Meaning.{cardAt}
 use Rattle.fares.specs.declared.Leg.{Leg}
 use Rattle.fares.specs.declared.Question.{Question}
 
@@ -51,9 +52,9 @@ railwayAt j = legsAt + legWidth * j
 abbrev pub fareAt : ℕ → ℕ
 fareAt j = railwayAt j + 1
 
--- one card, and three that are kept zero
+-- the four cards, in their order
 abbrev pub cardWords : Question → List ℕ
-cardWords q = q .card ∷ replicate (cardsWidth - 1) 0
+cardWords q = upTo (cardAt q) cardsWidth
 
 -- one pair, of category 0, and five that are kept zero
 abbrev pub pairWords : Question → List ℕ
@@ -67,10 +68,17 @@ legWords leg = leg .railway ∷ leg .fare ∷ 0 ∷ 0 ∷ []
 abbrev pub legAt : Question → ℕ → Leg
 legAt q j = cond (ltb j (q .count)) (getD (q .legs) j noLeg) noLeg
 
+-- the words of a question, given those of its cards
+abbrev pub wordsWith : List ℕ → Question → List ℕ
+wordsWith cards q = q .offer ∷ q .day ∷ (cards ++ (q .count ∷ (pairWords q ++ flatMap legWords (upTo (legAt q) 8))))
+
 unfoldable pub questionWords : Question → List ℕ
-questionWords q = q .offer ∷ q .day ∷ (cardWords q ++ (q .count ∷ (pairWords q ++ flatMap legWords (upTo (legAt q) 8))))
+questionWords q = wordsWith (cardWords q) q
 
 -- the question that words say
+abbrev pub cardIn : List ℕ → ℕ → ℕ
+cardIn ws k = getD ws (cardsAt + k) 0
+
 abbrev pub legOf : List ℕ → ℕ → Leg
 legOf ws j = record { railway = getD ws (railwayAt j) 0; fare = getD ws (fareAt j) 0 }
 
@@ -80,7 +88,7 @@ questionOf ws =
       offer = getD ws offerAt 0;
       day = getD ws dayAt 0;
       persons = getD ws personsAt 0;
-      card = getD ws cardsAt 0;
+      cards = upTo (cardIn ws) cardsWidth;
       count = getD ws countAt 0;
       legs = upTo (legOf ws) 8;
     }

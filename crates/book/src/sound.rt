@@ -1,12 +1,10 @@
 // When a book is sound, and a sale number within its limits.
 ghost use mathlib.Core.Path.{_≡_};
 ghost use Prim.Native.Nat.{_+_, _*_, _≤_, _<_};
-ghost use lib.Dec.{leb};
 ghost use lib.ListN.{length};
 ghost use Rattle.common.specs.Lists.{every, upTo};
-ghost use Rattle.fares.specs.Reductions.{partBound};
-ghost use Rattle.book.specs.Words.{capacity, bookLength, startOf, width, questionWidth, entryOf, entryAt};
-ghost use Rattle.book.specs.Sound.{isZero, numberInLimits, askedSound, entrySound, soundWords};
+ghost use Rattle.book.specs.Words.{capacity, bookLength, startOf, width, questionWidth, questionOf, entryOf, entryAt};
+ghost use Rattle.book.specs.Sound.{isZero, numberInLimits, askedSound, isBounded, entrySound, soundWords};
 use super::words::ASKED;
 use super::words::CAPACITY;
 use super::words::ENTRIES;
@@ -19,7 +17,7 @@ use super::words::SPARE;
 use super::words::STATUS;
 use super::words::TILL;
 use super::words::WIDTH;
-use fares::PART_BOUND;
+use fares::Question;
 
 // Whether a sale number is within its limits.
 pub fn is_number(till: u32, sequence: u64) -> bool
@@ -51,12 +49,12 @@ fn all_zero(words: &[u32]) -> bool
     sum == 0
 }
 
-fn all_bounded(parts: &[u32]) -> bool
-    ensures { λ r. ⌜ r ≡ every (λ p. leb p partBound) (now (parts .entry)) ⌝ }
+fn all_bounded(parts: &[u32], bound: u32) -> bool
+    ensures { λ r. ⌜ r ≡ isBounded bound (now (parts .entry)) ⌝ }
 {
     let mut k = 0;
     while k < parts.len() {
-        if PART_BOUND < parts[k] {
+        if bound < parts[k] {
             return false;
         }
         k += 1;
@@ -64,12 +62,15 @@ fn all_bounded(parts: &[u32]) -> bool
     true
 }
 
-fn asked_sound(words: &[u32]) -> bool
-    requires { ⌜ length (now words) ≡ questionWidth ⌝ }
+// Whether words are sound, given the question that they say.
+fn asked_sound(words: &[u32], q: Question) -> bool
+    requires { ⌜ (length (now words) ≡ questionWidth) × (q ≡ questionOf (now words)) ⌝ }
     ensures { λ r. ⌜ r ≡ askedSound (now (words .entry)) ⌝ }
 {
-    let q = super::words::question_in(words);
     if !fares::limits::in_limits(q) {
+        return false;
+    }
+    if !fares::limits::cards_differ(q) {
         return false;
     }
     super::words::says(words, q)
@@ -83,10 +84,11 @@ fn entry_sound(words: &[u32]) -> bool
     if !is_number(words[TILL], words[SEQUENCE] as u64) {
         return false;
     }
-    if !asked_sound(&words[ASKED..PARTS]) {
+    let q = super::words::question_in(&words[ASKED..PARTS]);
+    if !asked_sound(&words[ASKED..PARTS], q) {
         return false;
     }
-    if !all_bounded(&words[PARTS..STATUS]) {
+    if !all_bounded(&words[PARTS..STATUS], fares::limits::part_bound(q)) {
         return false;
     }
     let first = PARTS + (words[LEG_COUNT] as usize);

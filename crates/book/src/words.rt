@@ -81,7 +81,11 @@ pub fn question_words(q: Question) -> [u32; QUESTION_WIDTH]
     let mut words = [0u32; QUESTION_WIDTH];
     words[OFFER] = q.offer;
     words[DAY] = q.day;
-    words[CARDS] = q.card;
+    let cards = q.cards;
+    words[CARDS] = cards[0];
+    words[CARDS + 1] = cards[1];
+    words[CARDS + 2] = cards[2];
+    words[CARDS + 3] = cards[3];
     words[COUNT] = q.count;
     words[PERSONS] = q.persons;
     let mut j = 0;
@@ -115,7 +119,12 @@ pub fn question_in(words: &[u32]) -> Question
         offer: words[OFFER],
         day: words[DAY],
         persons: words[PERSONS],
-        card: words[CARDS],
+        cards: [
+            words[CARDS],
+            words[CARDS + 1],
+            words[CARDS + 2],
+            words[CARDS + 3],
+        ],
         count: words[COUNT],
         legs: [
             leg_in(words, 0),

@@ -20,7 +20,7 @@ use Rattle.bundle.specs.Choice.{isOf, choiceOf}
 use Rattle.fares.specs.declared.Pricing.the-variants.{Priced}
 use Rattle.bundle.specs.Samples.{digits, year, conditions, named, card}
 use Rattle.bundle.specs.Verdict.{firstPass, secondPass, checks}
-use Rattle.fares.specs.Question.{inLimits}
+use Rattle.fares.specs.Question.{cardsInLimits, cardsDiffer, inLimits}
 use Rattle.fares.specs.Rounding.{rounded, upwards, downwards, nearest}
 use Rattle.fares.specs.Reductions.{reduceBy, reduceAll}
 use Rattle.fares.specs.Legs.{chosen, personsFit, unread, firstSet, partBy}
@@ -38,7 +38,7 @@ use Rattle.sales.proofs.SentAgain.{told-first, cancel-told}
 
 -- THE FARE, computed
 priced-parts : (fareOf bundle asked .outcome ≡ Priced) × (fareOf bundle asked .parts ≡ parts) × (partsOf (recordsOf bundle) asked ≡ parts)
-unfolding least every any same sum firstOf digitsAfter numberOf firstFault eachFrom isCompany isAllRailways isTransferor companyOf isRailway isDay monthLength monthLengths lengthOf endOf tableAt tables rowWith rowOf bytesOf byteOf numberIn isYes transferorOf offerOf railwayOf codeOf codeFits sameKey dayRow hasPeriod firstDay lastDay holdsDay grantIn numberOrBlank mostPersons factorRule firstDayRule lastDayRule ruled keptBeside keepsRow firstBroken brokenField tableOf stepOf recordsFrom restFrom recordsOf restOf otherTransferor clash earlierOf linkRows isAsked railwayServes joins serves missingLink isOf choiceOf firstPass secondPass checks inLimits rounded upwards downwards nearest reduceBy reduceAll chosen personsFit unread firstSet partBy partsOf priceChecks fareChecks fareOf digits year conditions named card
+unfolding least every any same sum firstOf digitsAfter numberOf firstFault eachFrom isCompany isAllRailways isTransferor companyOf isRailway isDay monthLength monthLengths lengthOf endOf tableAt tables rowWith rowOf bytesOf byteOf numberIn isYes transferorOf offerOf railwayOf codeOf codeFits sameKey dayRow hasPeriod firstDay lastDay holdsDay grantIn numberOrBlank mostPersons factorRule firstDayRule lastDayRule ruled keptBeside keepsRow firstBroken brokenField tableOf stepOf recordsFrom restFrom recordsOf restOf otherTransferor clash earlierOf linkRows isAsked railwayServes joins serves missingLink isOf choiceOf firstPass secondPass checks cardsInLimits cardsDiffer inLimits rounded upwards downwards nearest reduceBy reduceAll chosen personsFit unread firstSet partBy partsOf priceChecks fareChecks fareOf digits year conditions named card
 priced-parts = (refl, refl, refl)
 
 -- WHAT IS OWED after some operations, computed from the fare
@@ -55,7 +55,7 @@ unfolding bookedBy any after
 first-booked = first-is-booked [] number refl refl bundle asked (omega arith) (priced-parts .0) ∙ ap (receipt Booked) (priced-parts .1)
 
 same-asked : SameQuestion asked asked
-same-asked = record { offer = refl; day = refl; persons = refl; card = refl; count = refl; railways = λ k l. refl; fares = λ k l. refl }
+same-asked = record { offer = refl; day = refl; persons = refl; cards = λ k l. refl; count = refl; railways = λ k l. refl; fares = λ k l. refl }
 
 module _ (more : List Op) where
   again : (status : ℕ) → saleAnswer (after emptyBook (sold ∷ more)) 1 1 bundle asked ≡ receipt (AlreadyBooked status) (partsOf (recordsOf bundle) asked) → Sells (sold ∷ more) (AlreadyBooked status)
@@ -65,7 +65,7 @@ booked-first : saleAnswer (after emptyBook []) 1 1 bundle asked .outcome ≡ Boo
 booked-first = ap (λ r. r .outcome) first-booked
 
 pub the-day : Day
-unfolding cancelledIn owed books dueFrom upTo least every any same sum firstOf digitsAfter numberOf firstFault eachFrom isCompany isAllRailways isTransferor companyOf isRailway isDay monthLength monthLengths lengthOf endOf tableAt tables rowWith rowOf bytesOf byteOf numberIn isYes transferorOf offerOf railwayOf codeOf codeFits sameKey dayRow hasPeriod firstDay lastDay holdsDay grantIn numberOrBlank mostPersons factorRule firstDayRule lastDayRule ruled keptBeside keepsRow firstBroken brokenField tableOf stepOf recordsFrom restFrom recordsOf restOf otherTransferor clash earlierOf linkRows isAsked railwayServes joins serves missingLink isOf choiceOf firstPass secondPass checks inLimits rounded upwards downwards nearest reduceBy reduceAll chosen personsFit unread firstSet partBy partsOf priceChecks fareChecks fareOf digits year conditions named card
+unfolding cancelledIn owed books dueFrom upTo least every any same sum firstOf digitsAfter numberOf firstFault eachFrom isCompany isAllRailways isTransferor companyOf isRailway isDay monthLength monthLengths lengthOf endOf tableAt tables rowWith rowOf bytesOf byteOf numberIn isYes transferorOf offerOf railwayOf codeOf codeFits sameKey dayRow hasPeriod firstDay lastDay holdsDay grantIn numberOrBlank mostPersons factorRule firstDayRule lastDayRule ruled keptBeside keepsRow firstBroken brokenField tableOf stepOf recordsFrom restFrom recordsOf restOf otherTransferor clash earlierOf linkRows isAsked railwayServes joins serves missingLink isOf choiceOf firstPass secondPass checks cardsInLimits cardsDiffer inLimits rounded upwards downwards nearest reduceBy reduceAll chosen personsFit unread firstSet partBy partsOf priceChecks fareChecks fareOf digits year conditions named card
 the-day =
     record {
       sale-first = first-booked;

@@ -1,6 +1,6 @@
 -- What a sale and a cancellation do to the entries of a sound book: a sale that the history says books adds one, a cancellation cancels that of its number.
 -- Assumes nothing.
-use Prim.Native.Nat.{ℕ, zero, suc, _-_, _≤_, _<_}
+use Prim.Native.Nat.{ℕ, zero, suc, _-_, _≤_, _<_, zero-le}
 use mathlib.Core.Path.{_≡_, refl, sym, _∙_, ap}
 use mathlib.Core.Bool.{Bool, true, false, cond, not, _&&_, _||_, and-true}
 use mathlib.Core.List.{List, [], _∷_, _++_, map}
@@ -19,8 +19,7 @@ use Rattle.common.proofs.Sums.{map-at}
 use Rattle.common.proofs.Checks.{append-clean, one-clean}
 use Rattle.bundle.specs.Records.{recordsOf}
 use Rattle.bundle.specs.Verdict.{checks}
-use Rattle.fares.specs.Question.{noLeg, legsOf, inLimits}
-use Rattle.fares.specs.Reductions.{partBound}
+use Rattle.fares.specs.Question.{noLeg, legsOf, cardSlots, cardsDiffer, inLimits}
 use Rattle.fares.specs.Legs.{partOf}
 use Rattle.fares.specs.Fare.{partsOf, priceChecks, fareChecks, quoted, fareOf}
 use Rattle.fares.specs.declared.Leg.{Leg}
@@ -29,7 +28,7 @@ use Rattle.fares.proofs.FareLaws.{asked, part-small}
 use Rattle.fares.proofs.Meaning.{eight-parts}
 use Rattle.book.specs.Words.{Entry, noEntry, capacity, countOf, entries, questionWords, booking}
 use Rattle.book.specs.Due.{dueFrom}
-use Rattle.book.specs.Sound.{isZero, numberInLimits, entrySound, hasNumber, heldAt}
+use Rattle.book.specs.Sound.{isZero, numberInLimits, boundOf, isBounded, entrySound, hasNumber, heldAt}
 use Rattle.sales.specs.Sales.{isClean, place, isPresent, present, saleChecks, isBooked, saleWords, cancelChecks, isCancelled, cancelWords}
 use Rattle.sales.specs.History.{Number, isIn, isPriced, books}
 use Rattle.book.proofs.EntryWords.{cancelledEntry, Whole}
@@ -98,11 +97,19 @@ books-is w s n b q =
     rw (sound-is w s) e in
     x ∙ rw (not-full (length (entries w)) capacity, present-is w n, priced-is b q, ← length-map (entries w) saleNumberOf)
 
--- what a sale that books has: a question within its limits, and parts within the bound, zero from the leg count on
+-- what a sale that books has: a question within its limits, cards that differ, and parts within the bound, zero from the leg count on
 module _ (b : List ℕ) (q : Question) (c : firstFault (fareChecks b q) ≡ clean) where
-  pub priced-in-limits : inLimits q ≡ true
+  passed : (not (inLimits q) ≡ false) × (not (cardsDiffer (cardSlots q)) ≡ false)
   unfolding fareChecks priceChecks
-  priced-in-limits = not-false (inLimits q) (one-clean (not (inLimits q)) 11 0 0 _ (append-clean (checks b) (priceChecks (recordsOf b) q) c .1) .0)
+  passed =
+      let l = one-clean (not (inLimits q)) 11 0 0 _ (append-clean (checks b) (priceChecks (recordsOf b) q) c .1) in
+      (l .0, one-clean (not (cardsDiffer (cardSlots q))) 17 0 0 _ (l .1) .0)
+
+  pub priced-in-limits : inLimits q ≡ true
+  priced-in-limits = not-false (inLimits q) (passed .0)
+
+  priced-differ : cardsDiffer (cardSlots q) ≡ true
+  priced-differ = not-false (cardsDiffer (cardSlots q)) (passed .1)
 
   abbrev parts : List ℕ
   parts = partsOf (recordsOf b) q
@@ -129,15 +136,17 @@ module _ (b : List ℕ) (q : Question) (c : firstFault (fareChecks b q) ≡ clea
   sold-due {legs = legs} k =
       k .as-due q parts (asked q priced-in-limits .few) (zero-from parts (q .count) parts-clear) ∙ ap (dueFrom legs q) (sym fare-parts)
 
-  own-small : every (λ p. leb p partBound) own ≡ true
+  own-small : isBounded (boundOf q) own ≡ true
   own-small =
-      every-by (λ p. leb p partBound) 0 own
+      every-by (λ p. leb p (boundOf q)) 0 own
       (λ i l. let m : i < length (legsOf q) = rw (← length-map (legsOf q) (partOf (recordsOf b) q)) l in
-      le-leb (getD own i 0) partBound (rw (map-at (partOf (recordsOf b) q) (legsOf q) i 0 noLeg m) (part-small (recordsOf b) q (asked q priced-in-limits) i m)))
+      le-leb (getD own i 0) (boundOf q) (rw (map-at (partOf (recordsOf b) q) (legsOf q) i 0 noLeg m) (part-small (recordsOf b) q (asked q priced-in-limits) i m)))
 
-  pub parts-small : every (λ p. leb p partBound) parts ≡ true
+  pub parts-small : isBounded (boundOf q) parts ≡ true
   unfolding partsOf
-  parts-small = every-append (λ p. leb p partBound) own (replicate (8 - q .count) 0) ∙ rw own-small (every-replicate (λ p. leb p partBound) 0 refl (8 - q .count))
+  parts-small =
+      every-append (λ p. leb p (boundOf q)) own (replicate (8 - q .count) 0)
+      ∙ rw own-small (every-replicate (λ p. leb p (boundOf q)) 0 (le-leb 0 (boundOf q) zero-le) (8 - q .count))
 
 clean-by : (f : Finding) → isClean f ≡ true → f ≡ clean
 clean-by clean e = refl
@@ -199,7 +208,7 @@ module _ (w : List ℕ) (s : IsSound w) (n : Number) (b : List ℕ) (q : Questio
     sale-sound =
         rw sale-adds
         (added-sound w s entry room whole
-        (booking-sound t u q (partsOf (recordsOf b) q) (told .0) (priced-in-limits b q (told .3)) (parts-small b q (told .3)) (parts-clear b q (told .3))) absent)
+        (booking-sound t u q (partsOf (recordsOf b) q) (told .0) (priced-in-limits b q (told .3)) (priced-differ b q (told .3)) (parts-small b q (told .3)) (parts-clear b q (told .3))) absent)
 
 -- THE CANCELLATION
 module _ (w : List ℕ) (s : IsSound w) (t u : ℕ) where

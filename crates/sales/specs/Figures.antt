@@ -23,7 +23,7 @@ abbrev pub bundle : List ℕ
 bundle = conditions 1185 byte-N (grant 25000 byte-N 0) ++ conditions 0 byte-N (grant 0 byte-N 0)
 
 abbrev pub asked : Question
-asked = ticket 3 0 2 (leg 1185 1010 ∷ leg 1181 500 ∷ [])
+asked = ticket 3 [] 2 (leg 1185 1010 ∷ leg 1181 500 ∷ [])
 
 abbrev pub parts : List ℕ
 parts = firstOf 0 8 (2274 ∷ 1500 ∷ [])
