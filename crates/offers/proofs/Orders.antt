@@ -127,7 +127,7 @@ module _ (s : List ℕ) where
   unfolding fareChecks priceChecks every any
   fare-among q ns =
       let all = fareNumbers ++ ns in
-      append-tells all (checks s) (priceChecks (recordsOf s) q) (verdict-among (11 ∷ 12 ∷ 13 ∷ 14 ∷ 15 ∷ 16 ∷ ns))
+      append-tells all (checks s) (priceChecks (recordsOf s) q) (verdict-among (11 ∷ 17 ∷ 12 ∷ 13 ∷ 14 ∷ 15 ∷ 16 ∷ ns))
       (append-tells all (eachFrom 0 (legChecks (recordsOf s) q) (legsOf q)) _ (each-tells all (legChecks (recordsOf s) q) (λ i leg. refl) 0 (legsOf q)) refl)
 
   fare-numbers : (q : Question) → TellsOf fareNumbers (fareChecks s q)

@@ -2,7 +2,7 @@
 -- them. docs/PROMISES.md reads them out. `Orders` holds each call to its order of checks besides, and `OneAnswer` says of the contracts themselves that no
 -- second answer meets them.
 -- Assumes nothing.
-use Prim.Native.Nat.{ℕ, _+_, _≤_, _<_}
+use Prim.Native.Nat.{ℕ, _+_, _*_, _≤_, _<_}
 use mathlib.Core.Path.{_≡_, refl, sym, _∙_, ap}
 use mathlib.Core.Bool.{Bool, true, false, cond}
 use mathlib.Core.List.{List, [], _∷_, _++_, List·Memᴰ}
@@ -40,14 +40,16 @@ use Rattle.bundle.proofs.Faults.{refused-fault, fault-refused}
 use Rattle.bundle.proofs.Computed.{verdict-figures-hold}
 use Rattle.fares.specs.Rounding.{IsRounded}
 use Rattle.fares.specs.Fare.{partsOf, fareOf}
-use Rattle.fares.specs.Question.{inLimits}
-use Rattle.fares.specs.Meaning.{InLimits, IsFare, NoFare}
+use Rattle.fares.specs.Question.{cardSlots, cardsOf, cardsDiffer, inLimits}
+use Rattle.fares.specs.Reductions.{greater, partBound}
+use Rattle.fares.specs.Meaning.{InLimits, CardsDiffer, IsFare, NoFare}
 use Rattle.fares.specs.Figures as fares
 use Rattle.fares.specs.declared.Question.{Question}
 use Rattle.fares.specs.declared.Pricing.the-variants.{Priced, Refused}
 use Rattle.fares.proofs.RoundLaws.{nothing-left}
 use Rattle.fares.proofs.LegMeaning.{rounded-only}
 use Rattle.fares.proofs.QuestionLimits.{limits-mean, means-limits}
+use Rattle.fares.proofs.CardSlots.{differ-means, means-differ}
 use Rattle.fares.proofs.Meaning.{fare-means, means-fare, no-fare-means, means-no-fare, part-bounded}
 use Rattle.fares.proofs.Computed.{fare-figures-hold}
 use Rattle.book.specs.Words.{Entry, countOf, entryAt, entries, questionOf}
@@ -158,11 +160,14 @@ pub what-the-records-say-is-the-fare : (bundle : List ℕ) (R : List Rec) (q : Q
 unfolding fareTells pricingTells
 what-the-records-say-is-the-fare bundle R q fare parts f = rw (means-fare bundle R q fare parts f)
 
--- A question is within its limits exactly if each of its values is.
+-- A question is within its limits exactly if each of its values is, and gives no card twice exactly if slots that have the same are not used.
 pub the-limits-of-a-question : (q : Question) → (inLimits q ≡ true) ↔ InLimits q
 the-limits-of-a-question q = (limits-mean q, means-limits q)
 
--- A fare is refused only for a fault of the bundle, a question outside its limits (11), or the first leg that has no CO (12), none in force (13), other persons (14)
+pub the-cards-of-a-question-differ : (q : Question) → (cardsDiffer (cardSlots q) ≡ true) ↔ CardsDiffer q
+the-cards-of-a-question-differ q = (differ-means q, means-differ q)
+
+-- A fare is refused only for a fault of the bundle, a question outside its limits (11) or with a card given twice (17), or the first leg that has no CO (12), none in force (13), other persons (14)
 -- or a condition unread (15); and if that is so.
 pub a-refused-fare-says-why : (bundle : List ℕ) (q : Question) (why : Refusal) (us : List ℕ) → fareTells (fareOf bundle q) ≡ refuses why us
     → NoFare bundle (recordsOf bundle) (restOf bundle) q (why .number) (why .place) (why .detail)
@@ -173,16 +178,22 @@ pub what-says-why-refuses-the-fare : (bundle : List ℕ) (R : List Rec) (rest : 
 unfolding fareTells pricingTells
 what-says-why-refuses-the-fare bundle R rest c q n p d f = rw (means-no-fare bundle R rest c q n p d f)
 
--- An exact amount is rounded to one amount, as a record says; nothing to nothing, so that a discount of 100,000 leaves 0 in every mode. A part is at most
--- 99,197,505 cents.
+-- An exact amount is rounded to one amount, as a record says; nothing to nothing, so that a discount of 100,000 leaves 0 in every mode.
 pub rounding-has-one-outcome : {mode n f r s : ℕ} → IsRounded mode n f r → IsRounded mode n f s → r ≡ s
 rounding-has-one-outcome = rounded-only
 
 pub a-whole-discount-leaves-nothing : {mode f r : ℕ} → IsRounded mode 0 f r → r ≡ 0
 a-whole-discount-leaves-nothing = nothing-left
 
-pub a-part-is-bounded : (bundle : List ℕ) (R : List Rec) (q : Question) (fare : ℕ) (parts : List ℕ) → IsFare bundle R q fare parts → (k : ℕ) → getD parts k 0 ≤ 99197505
+-- A part is at most what 99 persons pay at 999,999 cents each and 998 for each of its steps, which are one more than the question's cards, of which one is always
+-- counted: 99,197,505 cents for none or one, and 98,802 more for each card after the first.
+pub a-part-is-bounded : (bundle : List ℕ) (R : List Rec) (q : Question) (fare : ℕ) (parts : List ℕ) → IsFare bundle R q fare parts
+    → (k : ℕ) → getD parts k 0 ≤ 99 * (999999 + 998 * (1 + greater 1 (length (cardsOf q))))
 a-part-is-bounded = part-bounded
+
+pub the-bounds-by-the-cards : upTo partBound 5 ≡ 99197505 ∷ 99197505 ∷ 99296307 ∷ 99395109 ∷ 99493911 ∷ []
+unfolding upTo
+the-bounds-by-the-cards = refl
 
 -- THE FIGURES: of the layout and the calendar, of verdicts, and of fares.
 pub the-figures-of-the-layout-hold : (x : layout.Figure) → List·Memᴰ x layout.figures → layout.Says x

@@ -41,7 +41,7 @@ module _ (book : List ℕ) (till sequence : ℕ) where
   present = getD (entries book) place noEntry
 
   -- SALE. "21, 22; if the number is present, the same question answers 'already booked' .., another question gives 23; then 24, the bundle's verdict 1-7,
-  -- 11, and the legs from the first, each for 12, 13, 14, 15; last 16."
+  -- 11, and the legs from the first, each for 12, 13, 14, 15; last 16", with 17 "directly after 11"
   unfoldable pub saleChecks : List ℕ → Question → List Check
   saleChecks bundle q =
       check (not (soundWords book)) 21 0 0 ∷

@@ -24,7 +24,7 @@ fn ticket() -> Question {
         offer: 42,
         day: 20240615,
         persons: 3,
-        card: 0,
+        cards: [0; 4],
         count: 2,
         legs: [first, second, none, none, none, none, none, none],
     }
