@@ -19,12 +19,12 @@ use Rattle.fares.specs.Meaning.{LegInLimits, legAt, cardAt, InLimits}
 use Rattle.fares.proofs.CardSlots.{differ-means, means-differ}
 use Rattle.fares.proofs.QuestionLimits.{limits-mean, means-limits}
 use Rattle.fares.specs.declared.Question.{Question}
-use Rattle.book.specs.Words.{Entry, offerAt, dayAt, cardsAt, countAt, personsAt, railwayAt, fareAt, cardIn, legOf, questionWidth, questionOf, questionWords, sequenceAt, askedAt, partsAt, statusAt, spareAt, width, entryOf}
+use Rattle.book.specs.Words.{Entry, offerAt, dayAt, cardsAt, countAt, personsAt, railwayAt, fareAt, legOf, questionWidth, questionOf, questionWords, sequenceAt, askedAt, partsAt, statusAt, spareAt, width, entryOf}
 use Rattle.book.specs.Sound.{isZero, numberInLimits, askedSound, boundOf, isBounded, entrySound}
 use Rattle.book.specs.Meaning.{Within, word, askedWord, cardsIn, Used, till, sequence, offer, day, persons, card, count, railway, fare, part, status, SoundSale}
 use Rattle.book.proofs.QuestionPlaces.{places, used-again}
 use Rattle.book.proofs.QuestionWords.{words-length, asked-again}
-use Rattle.book.proofs.EntryWords.{asked-at, part-at, count-at}
+use Rattle.book.proofs.EntryWords.{asked-at, part-at, card-at, count-at}
 use Rattle.book.proofs.SoundBook.{SoundEntry, sound-entry, asked-limits, asked-differ, no-part}
 
 module _ (b : List ℕ) (long : length b ≡ width) where
@@ -52,8 +52,7 @@ module _ (b : List ℕ) (long : length b ≡ width) where
 
   -- a card, and the bound by how many there are
   card-is : (k : ℕ) → k < 4 → cardAt q k ≡ askedWord b (cardsAt + k)
-  unfolding questionOf
-  card-is k l = upto-at (cardIn ws) 4 k 0 l ∙ asked-at b (cardsAt + k) (omega arith)
+  card-is = card-at b
 
   slots-are : cardSlots q ≡ upTo (λ k. askedWord b (cardsAt + k)) 4
   slots-are =

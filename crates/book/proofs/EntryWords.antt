@@ -7,10 +7,11 @@ use native.Mathlib.Nat.{add-zero, add-assoc, add-sub-cancel-left}
 use native.Mathlib.Omega.{arith}
 use lib.ListN.{length, getD, take, drop, set, replicate, length-append, length-drop, take-append-drop}
 use lib.Seq.{getD-take, getD-drop, drop-cons, drop-drop, drop-set-lt, drop-set-add, take-set-lt, take-set-le, getD-set-same, getD-set-other, take-take, take-at, drop-at, take-all, length-take-le, take-append-add, paste, take-paste, drop-paste, length-paste}
-use Rattle.common.proofs.Lists.{part-front}
+use Rattle.common.proofs.Lists.{part-front, upto-at}
 use Rattle.common.proofs.Parts.{part-rest}
+use Rattle.fares.specs.Meaning.{cardAt}
 use Rattle.fares.specs.declared.Question.{Question}
-use Rattle.book.specs.Words.{Entry, countAt, legsAt, legWidth, railwayAt, questionOf, entryWords, entryAt, askedAt, partsAt, statusAt, spareAt, tillAt, sequenceAt, width, questionWidth, questionWords, entryOf, wordsOf, booking, startOf}
+use Rattle.book.specs.Words.{Entry, cardsAt, cardsWidth, countAt, legsAt, legWidth, railwayAt, cardIn, questionOf, entryWords, entryAt, askedAt, partsAt, statusAt, spareAt, tillAt, sequenceAt, width, questionWidth, questionWords, entryOf, wordsOf, booking, startOf}
 use Rattle.book.proofs.QuestionWords.{words-length}
 
 -- READ: word k of entry i, some of its words, and all of them, as the code lends them
@@ -36,7 +37,7 @@ parts-lent w i = part-of w i partsAt 8 (omega arith)
 pub block-lent : (w : List ℕ) (i : ℕ) → take (startOf i + width - startOf i) (drop (startOf i) w) ≡ entryWords w i
 block-lent w i = ap (λ n. take n (drop (startOf i) w)) (add-sub-cancel-left (startOf i) width)
 
--- in words that are an entry's: a part, the railway of a leg, the leg count, and the parts from there on
+-- in words that are an entry's: a part, the railway of a leg, a card, the leg count, and the parts from there on
 pub part-at : (b : List ℕ) (j : ℕ) → j < 8 → getD (take 8 (drop partsAt b)) j 0 ≡ getD b (partsAt + j) 0
 part-at b j l = getD-take 8 (drop partsAt b) j 0 l ∙ getD-drop partsAt b j 0
 
@@ -47,6 +48,10 @@ pub railway-at : (b : List ℕ) (j : ℕ) → j < 8 → getD (take questionWidth
 railway-at b j l =
     let e : askedAt + railwayAt j ≡ askedAt + legsAt + legWidth * j = omega arith in
     asked-at b (railwayAt j) (omega arith) ∙ ap (λ k. getD b k 0) e
+
+pub card-at : (b : List ℕ) (k : ℕ) → k < 4 → cardAt (questionOf (take questionWidth (drop askedAt b))) k ≡ getD b (askedAt + (cardsAt + k)) 0
+unfolding questionOf
+card-at b k l = upto-at (cardIn (take questionWidth (drop askedAt b))) cardsWidth k 0 l ∙ asked-at b (cardsAt + k) (omega arith)
 
 pub count-at : (b : List ℕ) → questionOf (take questionWidth (drop askedAt b)) .count ≡ getD b (askedAt + countAt) 0
 unfolding questionOf

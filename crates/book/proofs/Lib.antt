@@ -11,3 +11,4 @@ pub mod BalanceSums
 pub mod TotalIsSum
 pub mod EntryMeaning
 pub mod BookMeaning
+pub mod OneCard

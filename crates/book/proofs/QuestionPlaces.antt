@@ -18,7 +18,7 @@ use Rattle.book.specs.Meaning.{Used, till, sequence, offer, day, persons
 use Rattle.book.proofs.ComparedWords.{card-said, leg-said, used-said}
 
 -- what is zero in a row
-zeros : (f : ℕ → ℕ) (m : ℕ) → upTo f m ≡ upTo (λ k. 0) m → (k : ℕ) → k < m → f k ≡ 0
+pub zeros : (f : ℕ → ℕ) (m : ℕ) → upTo f m ≡ upTo (λ k. 0) m → (k : ℕ) → k < m → f k ≡ 0
 zeros f m e k l = sym (upto-at f m k 0 l) ∙ (ap (λ xs. getD xs k 0) e ∙ upto-at (λ j. 0) m k 0 l)
 
 module _ (q : Question) where

@@ -1,6 +1,7 @@
 pub mod Words
 pub mod Sound
 pub mod Meaning
+pub mod OneCard
 pub mod Due
 pub mod SameQuestion
 pub mod Changes

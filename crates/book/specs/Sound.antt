@@ -30,17 +30,20 @@ boundOf q = partBound (length (cardsOf q))
 abbrev pub isBounded : ℕ → List ℕ → Bool
 isBounded bound parts = every (λ p. leb p bound) parts
 
--- "its fields are in the limits above, parts are within the bound, and unused places are zero"
-unfoldable pub entrySound : Entry → Bool
-entrySound e =
+-- "its fields are in the limits above, parts are within the bound, and unused places are zero", by a rule for a question's words and a bound
+abbrev pub entryBy : (List ℕ → Bool) → (Question → ℕ) → Entry → Bool
+entryBy sound bound e =
     every (λ b. b) (
     numberInLimits (e .till) (e .sequence) ∷
-    askedSound (e .asked) ∷
-    isBounded (boundOf (questionOf (e .asked))) (e .parts) ∷
+    sound (e .asked) ∷
+    isBounded (bound (questionOf (e .asked))) (e .parts) ∷
     every isZero (drop (questionOf (e .asked) .count) (e .parts)) ∷
     leb (e .status) 1 ∷
     every isZero (e .spare) ∷
     [])
+
+unfoldable pub entrySound : Entry → Bool
+entrySound e = entryBy askedSound boundOf e
 
 abbrev pub hasNumber : ℕ → ℕ → Entry → Bool
 hasNumber till sequence e = eqb (e .till) till && eqb (e .sequence) sequence
@@ -59,13 +62,16 @@ repeats es i =
 unfoldable pub numbersDiffer : List Entry → Bool
 numbersDiffer es = eqb (least (repeats es) (length es)) (length es)
 
--- "A book is sound if its count is at most 256, its numbers differ, its fields are in the limits .., and unused places are zero."
-unfoldable pub soundWords : List ℕ → Bool
-soundWords book =
+-- "A book is sound if its count is at most 256, its numbers differ, its fields are in the limits .., and unused places are zero", by a rule for an entry
+abbrev pub bookBy : (Entry → Bool) → List ℕ → Bool
+bookBy sound book =
     every (λ b. b) (
     eqb (length book) bookLength ∷
     leb (countOf book) capacity ∷
-    every entrySound (entries book) ∷
+    every sound (entries book) ∷
     numbersDiffer (entries book) ∷
     every isZero (drop (startOf (countOf book)) book) ∷
     [])
+
+unfoldable pub soundWords : List ℕ → Bool
+soundWords book = bookBy entrySound book

@@ -137,10 +137,12 @@ entryOf ws =
       spare = take 2 (drop spareAt ws);
     }
 
--- a new entry
+-- a new entry, given its question's words, and of a question
+abbrev pub newEntry : ℕ → ℕ → List ℕ → List ℕ → Entry
+newEntry till sequence asked parts = record { till = till; sequence = sequence; asked = asked; parts = parts; status = 0; spare = 0 ∷ 0 ∷ [] }
+
 abbrev pub booking : ℕ → ℕ → Question → List ℕ → Entry
-booking till sequence q parts =
-    record { till = till; sequence = sequence; asked = questionWords q; parts = parts; status = 0; spare = 0 ∷ 0 ∷ [] }
+booking till sequence q parts = newEntry till sequence (questionWords q) parts
 
 abbrev pub noEntry : Entry
 noEntry = record { till = 0; sequence = 0; asked = []; parts = []; status = 0; spare = [] }

@@ -6,3 +6,4 @@ pub mod InAnyBook
 pub mod SentFirst
 pub mod SentAgain
 pub mod Computed
+pub mod OneCard

@@ -42,41 +42,60 @@ module _ (book : List ℕ) (till sequence : ℕ) where
 
   -- SALE. "21, 22; if the number is present, the same question answers 'already booked' .., another question gives 23; then 24, the bundle's verdict 1-7,
   -- 11, and the legs from the first, each for 12, 13, 14, 15; last 16", with 17 "directly after 11"
-  unfoldable pub saleChecks : List ℕ → Question → List Check
-  saleChecks bundle q =
-      check (not (soundWords book)) 21 0 0 ∷
+  -- By whether the book is sound, the question's words, and the checks of its fare
+  abbrev pub saleChecksBy : Bool → List ℕ → List Check → List Check
+  saleChecksBy sound asked fare =
+      check (not sound) 21 0 0 ∷
       check (not (numberInLimits till sequence)) 22 0 0 ∷
-      check (isPresent && not (same (present .asked) (questionWords q))) 23 place 0 ∷
-      cond isPresent [] (check (leb capacity (length (entries book))) 24 0 0 ∷ fareChecks bundle q)
+      check (isPresent && not (same (present .asked) asked)) 23 place 0 ∷
+      cond isPresent [] (check (leb capacity (length (entries book))) 24 0 0 ∷ fare)
 
-  -- "with the first parts and the cancelled mark", which is the entry's status
+  unfoldable pub saleChecks : List ℕ → Question → List Check
+  saleChecks bundle q = saleChecksBy (soundWords book) (questionWords q) (fareChecks bundle q)
+
+  -- "with the first parts and the cancelled mark", which is the entry's status; by the checks of the sale, and the parts of its fare
+  abbrev pub saleAnswerBy : List Check → List ℕ → Receipt
+  saleAnswerBy checks parts =
+      unless noReceipt (firstFault checks)
+      (cond isPresent (receipt (AlreadyBooked (present .status)) (present .parts)) (receipt Booked parts))
+
   unfoldable pub saleAnswer : List ℕ → Question → Receipt
-  saleAnswer bundle q =
-      unless noReceipt (firstFault (saleChecks bundle q))
-      (cond isPresent (receipt (AlreadyBooked (present .status)) (present .parts)) (receipt Booked (partsOf (recordsOf bundle) q)))
+  saleAnswer bundle q = saleAnswerBy (saleChecks bundle q) (partsOf (recordsOf bundle) q)
 
   -- nothing fails, and the number is new
+  abbrev pub isBookedBy : List Check → Bool
+  isBookedBy checks = isClean (firstFault checks) && not isPresent
+
   unfoldable pub isBooked : List ℕ → Question → Bool
-  isBooked bundle q = isClean (firstFault (saleChecks bundle q)) && not isPresent
+  isBooked bundle q = isBookedBy (saleChecks bundle q)
 
   unfoldable pub saleWords : List ℕ → Question → List ℕ
   saleWords bundle q = cond (isBooked bundle q) (added book (booking till sequence q (partsOf (recordsOf bundle) q))) book
 
   -- CANCEL. "21, 22, 25; a live sale becomes cancelled; a cancelled one answers 'already cancelled'. Both tell the parts."
-  unfoldable pub cancelChecks : List Check
-  cancelChecks =
-      check (not (soundWords book)) 21 0 0 ∷
+  abbrev pub cancelChecksBy : Bool → List Check
+  cancelChecksBy sound =
+      check (not sound) 21 0 0 ∷
       check (not (numberInLimits till sequence)) 22 0 0 ∷
       check (not isPresent) 25 0 0 ∷
       []
 
-  unfoldable pub cancelAnswer : Receipt
-  cancelAnswer =
-      unless noReceipt (firstFault cancelChecks)
+  unfoldable pub cancelChecks : List Check
+  cancelChecks = cancelChecksBy (soundWords book)
+
+  abbrev pub cancelAnswerBy : List Check → Receipt
+  cancelAnswerBy checks =
+      unless noReceipt (firstFault checks)
       (receipt (cond (eqb (present .status) 0) Cancelled AlreadyCancelled) (present .parts))
 
+  unfoldable pub cancelAnswer : Receipt
+  cancelAnswer = cancelAnswerBy cancelChecks
+
+  abbrev pub isCancelledBy : List Check → Bool
+  isCancelledBy checks = isClean (firstFault checks) && eqb (present .status) 0
+
   unfoldable pub isCancelled : Bool
-  isCancelled = isClean (firstFault cancelChecks) && eqb (present .status) 0
+  isCancelled = isCancelledBy cancelChecks
 
   unfoldable pub cancelWords : List ℕ
   cancelWords = cond isCancelled (cancelledAt book place) book

@@ -1,0 +1,79 @@
+-- ONE CARD OR NONE: a book whose sales have no more is sound exactly if it is by the base's rule; and one that is sound by that is such a book.
+-- Assumes nothing.
+use Prim.Native.Nat.{ℕ, zero, suc, _+_, _-_, _<_}
+use mathlib.Core.Path.{_≡_, refl, sym, _∙_, ap, ap₂}
+use mathlib.Core.Bool.{Bool, true, _&&_}
+use mathlib.Core.List.{List, [], _∷_}
+use native.Mathlib.Omega.{arith}
+use lib.ListN.{length, getD}
+use Rattle.common.specs.Lists.{every, same, upTo}
+use Rattle.common.proofs.Lists.{every-at, same-is}
+use Rattle.common.proofs.Tests.{both-true}
+use Rattle.fares.specs.OneCard.{OneCard, baseInLimits}
+use Rattle.fares.specs.declared.Question.{Question}
+use Rattle.fares.proofs.OneCard.{limits-are, cards-differ, bound-is}
+use Rattle.book.specs.Words.{Entry, noEntry, cardsAt, cardsWidth, questionOf, questionWords, countOf, entries, entryWords, entryAt}
+use Rattle.book.specs.Sound.{entrySound, soundWords}
+use Rattle.book.specs.OneCard.{OneCardBook, baseWords, baseAsked, baseEntry, baseSound}
+use Rattle.book.proofs.QuestionPlaces.{zeros}
+use Rattle.book.proofs.EntryWords.{asked-at, card-at}
+use Rattle.book.proofs.SoundBook.{entry-is, entries-length}
+
+-- A QUESTION has the base's words
+pub words-are : (q : Question) → OneCard q → questionWords q ≡ baseWords q
+unfolding questionWords baseWords upTo
+words-are q o = rw (o 1 (omega arith) (omega arith), o 2 (omega arith) (omega arith), o 3 (omega arith) (omega arith))
+
+-- AN ENTRY
+same-entry : (e : Entry) → OneCard (questionOf (e .asked)) → entrySound e ≡ baseEntry e
+unfolding entrySound baseEntry
+same-entry e o = let q = questionOf (e .asked) in rw (limits-are q o, cards-differ q o, words-are q o, bound-is q o)
+
+-- tests that agree on each element
+every-alike : {A : Type 0} (p r : A → Bool) (d : A) (xs : List A) → ((i : ℕ) → i < length xs → p (getD xs i d) ≡ r (getD xs i d)) → every p xs ≡ every r xs
+unfolding every
+every-alike p r d [] h = refl
+every-alike p r d (x ∷ xs) h = ap₂ _&&_ (h 0 (omega arith)) (every-alike p r d xs (λ i l. h (suc i) (omega arith)))
+
+-- A BOOK
+module _ (book : List ℕ) where
+  module _ (o : OneCardBook book) where
+    one-card : (i : ℕ) → i < countOf book → OneCard (questionOf (entryAt book i .asked))
+    one-card i h k a l = card-at (entryWords book i) k l ∙ o i h k a l
+
+    same-entries : every entrySound (entries book) ≡ every baseEntry (entries book)
+    same-entries =
+        every-alike entrySound baseEntry noEntry (entries book)
+        (λ i l. let h : i < countOf book = omega (arith, entries-length book) in rw (entry-is book i h) (same-entry (entryAt book i) (one-card i h)))
+
+    pub same-sound : soundWords book ≡ baseSound book
+    unfolding soundWords baseSound
+    same-sound = rw same-entries
+
+  -- sound by the base's rule, its further words for cards are zero
+  module _ (e : baseSound book ≡ true) where
+    well : (i : ℕ) → i < countOf book → baseEntry (entryAt book i) ≡ true
+    unfolding baseSound
+    well i h =
+        let g : every baseEntry (entries book) ≡ true = every-at (λ b. b) _ e 2 true (omega arith) in
+        rw (entry-is book i h) at (every-at baseEntry (entries book) g i noEntry (omega (arith, entries-length book)))
+
+    asked-well : (i : ℕ) → i < countOf book → baseAsked (entryAt book i .asked) ≡ true
+    unfolding baseEntry
+    asked-well i h = every-at (λ b. b) _ (well i h) 1 true (omega arith)
+
+    more-cards : (q : Question) (k : ℕ) → k < cardsWidth - 1 → getD (baseWords q) (cardsAt + 1 + k) 0 ≡ 0
+    unfolding baseWords upTo
+    more-cards q = zeros (λ k. getD (baseWords q) (cardsAt + 1 + k) 0) (cardsWidth - 1) refl
+
+    pub base-has-one-card : OneCardBook book
+    base-has-one-card i h k a l =
+        let ws = entryAt book i .asked in
+        let q = questionOf ws in
+        let s : ws ≡ baseWords q = same-is ws (baseWords q) (both-true (baseInLimits q) (same ws (baseWords q)) (asked-well i h) .1) in
+        let n : cardsAt + k ≡ cardsAt + 1 + (k - 1) = omega arith in
+        sym (asked-at (entryWords book i) (cardsAt + k) (omega arith))
+        ∙ (ap (λ x. getD x (cardsAt + k) 0) s ∙ (ap (λ p. getD (baseWords q) p 0) n ∙ more-cards q (k - 1) (omega arith)))
+
+    pub base-sound-now : soundWords book ≡ true
+    base-sound-now = same-sound base-has-one-card ∙ e
