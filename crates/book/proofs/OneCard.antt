@@ -1,6 +1,6 @@
--- ONE CARD OR NONE: a book whose sales have no more is sound exactly if it is by the base's rule; and one that is sound by that is such a book.
+-- ONE CARD OR NONE: a book whose sales have no more is sound exactly if it is by the base's rule; and one is sound by that exactly if it is such a book, and sound.
 -- Assumes nothing.
-use Prim.Native.Nat.{ℕ, zero, suc, _+_, _-_, _<_}
+use Prim.Native.Nat.{ℕ, suc, _+_, _-_, _<_}
 use mathlib.Core.Path.{_≡_, refl, sym, _∙_, ap, ap₂}
 use mathlib.Core.Bool.{Bool, true, _&&_}
 use mathlib.Core.List.{List, [], _∷_}
@@ -14,10 +14,12 @@ use Rattle.fares.specs.declared.Question.{Question}
 use Rattle.fares.proofs.OneCard.{limits-are, cards-differ, bound-is}
 use Rattle.book.specs.Words.{Entry, noEntry, cardsAt, cardsWidth, questionOf, questionWords, countOf, entries, entryWords, entryAt}
 use Rattle.book.specs.Sound.{entrySound, soundWords}
+use Rattle.book.specs.Meaning.{Sound}
 use Rattle.book.specs.OneCard.{OneCardBook, baseWords, baseAsked, baseEntry, baseSound}
 use Rattle.book.proofs.QuestionPlaces.{zeros}
 use Rattle.book.proofs.EntryWords.{asked-at, card-at}
 use Rattle.book.proofs.SoundBook.{entry-is, entries-length}
+use Rattle.book.proofs.BookMeaning.{sound-means, means-sound}
 
 -- A QUESTION has the base's words
 pub words-are : (q : Question) → OneCard q → questionWords q ≡ baseWords q
@@ -66,8 +68,8 @@ module _ (book : List ℕ) where
     unfolding baseWords upTo
     more-cards q = zeros (λ k. getD (baseWords q) (cardsAt + 1 + k) 0) (cardsWidth - 1) refl
 
-    pub base-has-one-card : OneCardBook book
-    base-has-one-card i h k a l =
+    has-one-card : OneCardBook book
+    has-one-card i h k a l =
         let ws = entryAt book i .asked in
         let q = questionOf ws in
         let s : ws ≡ baseWords q = same-is ws (baseWords q) (both-true (baseInLimits q) (same ws (baseWords q)) (asked-well i h) .1) in
@@ -75,5 +77,9 @@ module _ (book : List ℕ) where
         sym (asked-at (entryWords book i) (cardsAt + k) (omega arith))
         ∙ (ap (λ x. getD x (cardsAt + k) 0) s ∙ (ap (λ p. getD (baseWords q) p 0) n ∙ more-cards q (k - 1) (omega arith)))
 
-    pub base-sound-now : soundWords book ≡ true
-    base-sound-now = same-sound base-has-one-card ∙ e
+  -- THE BASE'S RULE, both ways
+  pub base-means : baseSound book ≡ true → Sound book × OneCardBook book
+  base-means e = let o = has-one-card e in (sound-means book (same-sound o ∙ e), o)
+
+  pub means-base : Sound book × OneCardBook book → baseSound book ≡ true
+  means-base h = sym (same-sound (h .1)) ∙ means-sound book (h .0)

@@ -7,6 +7,7 @@ use mathlib.Core.Path.{_≡_, refl, sym, _∙_, ap}
 use mathlib.Core.Bool.{Bool, true, false, cond}
 use mathlib.Core.List.{List, [], _∷_, _++_, List·Memᴰ}
 use mathlib.Core.Logic.{_↔_}
+use native.Mathlib.Omega.{arith}
 use lib.Dec.{eqb}
 use lib.ListN.{length, getD, replicate}
 use Rattle.common.specs.Lists.{every, any, sum, upTo}
@@ -42,7 +43,8 @@ use Rattle.fares.specs.Rounding.{IsRounded}
 use Rattle.fares.specs.Fare.{partsOf, fareOf}
 use Rattle.fares.specs.Question.{cardSlots, cardsOf, cardsDiffer, inLimits}
 use Rattle.fares.specs.Reductions.{greater, partBound}
-use Rattle.fares.specs.Meaning.{InLimits, CardsDiffer, IsFare, NoFare}
+use Rattle.fares.specs.Meaning.{cardAt, InLimits, CardsDiffer, IsFare, NoFare}
+use Rattle.fares.specs.OneCard.{OneCard, baseFare}
 use Rattle.fares.specs.Figures as fares
 use Rattle.fares.specs.declared.Question.{Question}
 use Rattle.fares.specs.declared.Pricing.the-variants.{Priced, Refused}
@@ -51,17 +53,21 @@ use Rattle.fares.proofs.LegMeaning.{rounded-only}
 use Rattle.fares.proofs.QuestionLimits.{limits-mean, means-limits}
 use Rattle.fares.proofs.CardSlots.{differ-means, means-differ}
 use Rattle.fares.proofs.Meaning.{fare-means, means-fare, no-fare-means, means-no-fare, part-bounded}
+use Rattle.fares.proofs.OneCard.{fare-is}
 use Rattle.fares.proofs.Computed.{fare-figures-hold}
 use Rattle.book.specs.Words.{Entry, countOf, entryAt, entries, questionOf}
 use Rattle.book.specs.Due.{carriedBy, anyLeg, dueIn}
 use Rattle.book.specs.Meaning.{Sound, Holds}
 use Rattle.book.specs.SameQuestion.{SameQuestion}
 use Rattle.book.specs.Sound.{soundWords}
+use Rattle.book.specs.OneCard.{OneCardBook, baseSound}
 use Rattle.book.proofs.BookMeaning.{sound-means, means-sound}
 use Rattle.book.proofs.AmountsAreDue.{balance-due, total-due}
 use Rattle.book.proofs.TotalIsSum.{total-is-sum}
+use Rattle.book.proofs.OneCard.{base-means, means-base}
 use Rattle.sales.specs.Sales.{saleAnswer, saleWords, cancelAnswer, cancelWords}
 use Rattle.sales.specs.Balances.{balanceAnswer, totalAnswer}
+use Rattle.sales.specs.OneCard.{baseSale, baseSaleWords, baseCancel, baseCancelWords, baseBalance, baseTotal}
 use Rattle.sales.specs.History.{Number, Op, sale, emptyBook, after, cancelledIn, bookedBy, owed, isIn, isNumber}
 use Rattle.sales.proofs.BalanceIsOwed.{balance-told, total-told}
 use Rattle.sales.proofs.InAnyBook.{book-balance, no-railway, book-total, sale-without-number, cancel-without-number, same-sale, other-sale, known-cancel}
@@ -71,6 +77,7 @@ use Rattle.sales.proofs.Computed.{the-day}
 use Rattle.sales.proofs.Unsound.{unsound-sale, unsound-cancel, unsound-balance, unsound-total}
 use Rattle.sales.proofs.SentFirst.{always-meant, unknown-is-told, full-is-told, first-is-booked, first-is-refused}
 use Rattle.sales.proofs.SentAgain.{told-first, refused-other, nothing-changes, cancel-told}
+use Rattle.sales.proofs.OneCard.{same-sale as sold-as-it-was, same-sale-words, same-cancel, same-cancel-words, same-balance, same-total}
 use Rattle.sales.proofs.AnswersByCase.{booked-parts, not-booked-stays, not-cancelled-stays}
 use Rattle.offers.specs.Answers.{Told, answers, refuses, verdictTells, pricingTells, fareTells, booked, alreadyBooked, cancelled, alreadyCancelled, outcomeTells, receiptTells, sumTells}
 use Rattle.offers.proofs.Orders.{told-accepted, told-refused, told-priced, told-no-fare, told-booked, booked-told, cancelled-told}
@@ -353,6 +360,17 @@ module _ (first : List Op) (n : Number) (bundle : List ℕ) (q : Question) (more
   unfolding receiptTells outcomeTells
   another-question-is-refused bundle′ q′ e = rw (refused-other first n bundle q more (told-booked _ parts sold .0) bundle′ q′ e)
 
+  -- So is a question with another card in one of the four slots: the order of the cards is part of it, and 5 and 7 are not 7 and 5.
+  pub another-card-is-refused : (bundle′ : List ℕ) (q′ : Question) (k : ℕ) → k < 4 → (cardAt q k ≡ cardAt q′ k → ⊥)
+      → receiptTells (saleAnswer now (n .till) (n .sequence) bundle′ q′) ≡ refuses (refuse 23 (length (bookedBy [] first)) 0) (replicate 10 0)
+  another-card-is-refused bundle′ q′ k l other = another-question-is-refused bundle′ q′ (λ s. other (s .cards k l))
+
+  pub swapped-cards-are-refused : (bundle′ : List ℕ) (q′ : Question) → q .cards ≡ 5 ∷ 7 ∷ 0 ∷ 0 ∷ [] → q′ .cards ≡ 7 ∷ 5 ∷ 0 ∷ 0 ∷ []
+      → receiptTells (saleAnswer now (n .till) (n .sequence) bundle′ q′) ≡ refuses (refuse 23 (length (bookedBy [] first)) 0) (replicate 10 0)
+  swapped-cards-are-refused bundle′ q′ a b =
+      another-card-is-refused bundle′ q′ 0 (omega arith)
+      (λ e. let z : 5 ≡ 7 = sym (ap (λ cards. getD cards 0 0) a) ∙ (e ∙ ap (λ cards. getD cards 0 0) b) in absurd (omega (arith, z)))
+
   pub sent-again-changes-nothing : (bundle′ : List ℕ) (q′ : Question) → saleWords now (n .till) (n .sequence) bundle′ q′ ≡ now
   sent-again-changes-nothing = nothing-changes first n bundle q more (told-booked _ parts sold .0)
 
@@ -364,6 +382,45 @@ module _ (first : List Op) (n : Number) (bundle : List ℕ) (q : Question) (more
       go : (c : Bool) → outcomeTells (cond c AlreadyCancelled Cancelled) parts ≡ answers (cond c alreadyCancelled cancelled ∷ 1 ∷ parts)
       go true = refl
       go false = refl
+
+-- SEVERAL CARDS. A question with one card or none has the fare, or the refusal, that it had before a question could carry several.
+pub one-card-is-priced-as-it-was : (bundle : List ℕ) (q : Question) → OneCard q → fareOf bundle q ≡ baseFare bundle q
+one-card-is-priced-as-it-was bundle q o = fare-is q o bundle
+
+-- Over a book whose sales have one card or none, sound or not, each call on the book answers such a question as it did, and leaves the book that it left.
+module _ (book : List ℕ) (one : OneCardBook book) where
+  module _ (till sequence : ℕ) where
+    pub one-card-is-sold-as-it-was : (bundle : List ℕ) (q : Question) → OneCard q → saleAnswer book till sequence bundle q ≡ baseSale book till sequence bundle q
+    one-card-is-sold-as-it-was = sold-as-it-was book one till sequence
+
+    pub its-sale-leaves-the-book-that-it-left : (bundle : List ℕ) (q : Question) → OneCard q → saleWords book till sequence bundle q ≡ baseSaleWords book till sequence bundle q
+    its-sale-leaves-the-book-that-it-left = same-sale-words book one till sequence
+
+    pub a-cancellation-is-told-as-it-was : cancelAnswer book till sequence ≡ baseCancel book till sequence
+    a-cancellation-is-told-as-it-was = same-cancel book one till sequence
+
+    pub a-cancellation-leaves-the-book-that-it-left : cancelWords book till sequence ≡ baseCancelWords book till sequence
+    a-cancellation-leaves-the-book-that-it-left = same-cancel-words book one till sequence
+
+  pub a-balance-is-told-as-it-was : (railway : ℕ) → balanceAnswer book railway ≡ baseBalance book railway
+  a-balance-is-told-as-it-was = same-balance book one
+
+  pub the-total-is-told-as-it-was : totalAnswer book ≡ baseTotal book
+  the-total-is-told-as-it-was = same-total book one
+
+-- A book was sound before exactly if it is sound and its sales have one card or none; so a book stored then is sound as it stands, and owes the same.
+pub a-book-sound-before : (book : List ℕ) → (baseSound book ≡ true) ↔ (Sound book × OneCardBook book)
+a-book-sound-before book = (base-means book, means-base book)
+
+module _ (book : List ℕ) (stored : baseSound book ≡ true) where
+  pub a-stored-book-is-sound : Sound book
+  a-stored-book-is-sound = base-means book stored .0
+
+  pub a-stored-book-owes-a-railway-the-same : (railway : ℕ) → balanceAnswer book railway ≡ baseBalance book railway
+  a-stored-book-owes-a-railway-the-same = same-balance book (base-means book stored .1)
+
+  pub a-stored-book-owes-the-same-in-all : totalAnswer book ≡ baseTotal book
+  a-stored-book-owes-the-same-in-all = same-total book (base-means book stored .1)
 
 -- THE DAY of one till that document 01 tells, call by call.
 pub the-day-of-one-till : Day

@@ -1,7 +1,7 @@
 -- ONE CARD OR NONE: over a book whose sales have no more, sound or not, every call is answered as by the base's rule, and leaves the base's book.
 -- Assumes nothing.
 use Prim.Native.Nat.{ℕ}
-use mathlib.Core.Path.{_≡_, refl, ap}
+use mathlib.Core.Path.{_≡_, refl}
 use mathlib.Core.Bool.{Bool, true, false, cond}
 use mathlib.Core.List.{List, [], _∷_}
 use Rattle.common.specs.Checks.{Check, firstFault}
