@@ -36,6 +36,7 @@ enum offers_number {
     OFFERS_PERSONS_OUTSIDE = 14,   /* the persons are outside that CO's fields 28 and 29; leg */
     OFFERS_CONDITION_UNREAD = 15,  /* a condition is set that the engine does not read; leg, field */
     OFFERS_FARE_TOO_HIGH = 16,     /* the fare is above 4,294,967,295 */
+    OFFERS_CARD_TWICE = 17,        /* the question gives a card twice */
     OFFERS_BOOK_UNSOUND = 21,      /* the book is unsound */
     OFFERS_NUMBER_LIMITS = 22,     /* till is not 1 to 65,535, or sequence not 1 to 4,294,967,295 */
     OFFERS_NUMBER_TAKEN = 23,      /* the sale number is held by another question; entry */
@@ -64,7 +65,7 @@ typedef struct {
     uint32_t offer;     /* 1 to 99,999 */
     uint32_t day;       /* YYYYMMDD, a real date of the years 1583 to 9999 */
     uint32_t persons;   /* 1 to 99 */
-    uint32_t card;      /* 0 none, or 1 to 999 */
+    uint32_t cards[4];  /* 1 to 999, all different, and 0 in each slot after them; their order is part of the question */
     uint32_t count;     /* legs, 1 to 8; what stands in `legs` after them does not matter */
     offers_leg legs[8];
 } offers_question;
@@ -95,7 +96,7 @@ typedef struct {
 /* Judges a bundle, of any length: 1 to 7, or the count of its records. */
 offers_judgement offers_verdict(const uint8_t *bundle, size_t length);
 
-/* Prices a ticket: 1 to 7, 11, then the legs from the first, each for 12 to 15, then 16. */
+/* Prices a ticket: 1 to 7, 11, 17, then the legs from the first, each for 12 to 15, then 16. */
 offers_quote offers_fare(const uint8_t *bundle, size_t length, offers_question question);
 
 /* Books a sale under its number, till and sequence: 21, 22, 23, 24, then as offers_fare. The same question under a number that is in the

@@ -19,10 +19,11 @@ enum { PAGE = 4096, CANARY = 0xA5 };
 
 /* After it come bundle_sent bytes and, unless the book is kept from the last reply, book_sent words; `more` counts zeros after them. */
 struct request {
-    uint64_t sequence, bundle_sent, bundle_more, book_sent, book_more, book_kept;
-    uint32_t call, till, railway;
+    uint64_t sequence, bundle_sent, bundle_more, book_sent, book_more;
+    uint32_t call, till, railway, book_kept;
     offers_question question;
 };
+_Static_assert(sizeof(struct request) == 5 * 8 + (4 + 24) * 4, "a request has no padding");
 
 struct answer {
     uint64_t number, place, detail, value;
