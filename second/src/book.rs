@@ -4,7 +4,7 @@ pub mod words;
 
 use std::collections::HashSet;
 
-use crate::fare::{priced_parts, Parts, Question, LARGEST_PART};
+use crate::fare::{largest_part, priced_parts, Parts, Question};
 use crate::question::is_railway;
 use crate::refusal::Refusal;
 
@@ -50,11 +50,16 @@ impl Entry {
     pub fn is_sound(&self) -> bool {
         is_sale_number(self.till, self.sequence)
             && self.question.is_within_limits()
+            && !self.question.gives_a_card_twice()
             && self.question == self.question.with_unused_slots_zero()
-            && self.parts.iter().all(|&part| part <= LARGEST_PART)
+            && self.parts.iter().all(|&part| part <= self.largest_part())
             && self.parts[self.question.used_slots()..]
                 .iter()
                 .all(|&part| part == 0)
+    }
+
+    pub fn largest_part(&self) -> u64 {
+        largest_part(self.question.given_cards().len())
     }
 
     fn parts_of(&self, railway: u64) -> impl Iterator<Item = u64> + '_ {
@@ -201,7 +206,7 @@ mod tests {
     use super::*;
     use crate::generate::drafts::{assemble, Draft};
     use crate::layout::{co, Table};
-    use crate::question::{asked, NO_CARD};
+    use crate::question::{asked, cards_of, Cards};
 
     fn bundle() -> Vec<u8> {
         assemble(&[
@@ -220,7 +225,7 @@ mod tests {
     }
 
     fn two_legs() -> Question {
-        asked(3, NO_CARD, &[(1185, 1010), (1181, 500)])
+        asked(3, &[], &[(1185, 1010), (1181, 500)])
     }
 
     const PARTS: Parts = [2274, 1500, 0, 0, 0, 0, 0, 0];
@@ -322,7 +327,7 @@ mod tests {
             );
         }
         let other_card = Question {
-            card: 5,
+            cards: cards_of(&[5]),
             ..two_legs()
         };
         assert_eq!(
@@ -421,10 +426,11 @@ mod tests {
         for entry in &mut book.entries {
             entry.question.leg_count = 8;
             entry.question.legs = [entry.question.legs[0]; 8];
-            entry.parts = [LARGEST_PART; 8];
+            entry.question.cards = [1, 2, 3, 4];
+            entry.parts = [largest_part(4); 8];
         }
-        assert_eq!(book.total(), Sum::Amount(203_156_490_240));
-        assert_eq!(book.balance(1185), Sum::Amount(203_156_490_240));
+        assert_eq!(book.total(), Sum::Amount(203_763_529_728));
+        assert_eq!(book.balance(1185), Sum::Amount(203_763_529_728));
     }
 
     fn is_unsound(change: impl Fn(&mut Book)) -> bool {
@@ -441,6 +447,82 @@ mod tests {
     }
 
     #[test]
+    fn the_cards_of_an_entry_are_within_limits_and_differ() {
+        let with = |cards: Cards| is_unsound(|book| book.entries[1].question.cards = cards);
+        for cards in [[0, 0, 0, 0], [7, 0, 0, 0], [7, 5, 0, 0], [999, 1, 2, 3]] {
+            assert!(!with(cards), "{cards:?}");
+        }
+        for cards in [[1000, 0, 0, 0], [7, 1000, 0, 0], [1, 2, 3, 1000]] {
+            assert!(with(cards), "{cards:?}");
+        }
+        for cards in [[0, 7, 0, 0], [7, 0, 5, 0], [7, 5, 0, 3], [0, 0, 0, 1]] {
+            assert!(with(cards), "{cards:?}");
+        }
+        for cards in [[7, 7, 0, 0], [7, 5, 7, 0], [1, 2, 3, 2], [0, 7, 7, 0]] {
+            assert!(with(cards), "{cards:?}");
+        }
+    }
+
+    #[test]
+    fn the_bound_on_a_part_goes_by_the_entrys_own_cards() {
+        let bounds = [99_197_505, 99_197_505, 99_296_307, 99_395_109, 99_493_911];
+        for (cards, bound) in bounds.into_iter().enumerate() {
+            let with = |part| {
+                is_unsound(|book| {
+                    book.entries[1].question.cards = cards_of(&[4, 3, 2, 1][..cards]);
+                    book.entries[1].parts[1] = part;
+                })
+            };
+            assert!(!with(bound), "{cards}");
+            assert!(with(bound + 1), "{cards}");
+        }
+    }
+
+    #[test]
+    fn a_repeat_gives_the_same_cards_in_the_same_order() {
+        let with = |cards: &[u64]| Question {
+            cards: cards_of(cards),
+            ..two_legs()
+        };
+        let mut book = Book::default();
+        book.sale(&bundle(), 1, 1, &with(&[5, 7]));
+        for turn in 0..2 {
+            for other in [
+                &[7, 5][..],
+                &[5],
+                &[7],
+                &[],
+                &[5, 7, 9],
+                &[5, 8],
+                &[5, 7, 7],
+                &[1000],
+            ] {
+                let answer = book.sale(&bundle(), 1, 1, &with(other));
+                assert_eq!(refused_sale(answer), (23, 0, 0), "{other:?}");
+            }
+            assert_eq!(book.sale(b"XX", 1, 1, &with(&[5, 7])), already(turn == 1));
+            book.cancel(1, 1);
+        }
+        assert_eq!(book.entries.len(), 1);
+    }
+
+    #[test]
+    fn a_card_twice_is_17_after_24_the_verdict_and_11() {
+        let mut twice = two_legs();
+        twice.cards = [7, 5, 7, 0];
+        let mut full = full_book();
+        assert_eq!(refused_sale(full.sale(b"XX", 2, 1, &twice)), (24, 0, 0));
+        let mut book = one_sale();
+        assert_eq!(refused_sale(book.sale(b"XX", 2, 1, &twice)), (2, 0, 0));
+        assert_eq!(refused_sale(book.sale(&bundle(), 2, 1, &twice)), (17, 0, 0));
+        twice.legs[0].railway = 9;
+        assert_eq!(refused_sale(book.sale(&bundle(), 2, 1, &twice)), (17, 0, 0));
+        twice.persons = 0;
+        assert_eq!(refused_sale(book.sale(&bundle(), 2, 1, &twice)), (11, 0, 0));
+        assert_eq!(book, one_sale());
+    }
+
+    #[test]
     fn each_way_to_be_unsound() {
         assert!(is_unsound(|book| book.entries[2].sequence = 1));
         assert!(is_unsound(|book| book.entries[1].till = 0));
@@ -454,7 +536,7 @@ mod tests {
         assert!(is_unsound(|book| book.entries[0].question.legs[3].fare = 1));
         assert!(is_unsound(|book| book.entries[0].parts[2] = 1));
         assert!(is_unsound(
-            |book| book.entries[0].parts[1] = LARGEST_PART + 1
+            |book| book.entries[0].parts[1] = largest_part(0) + 1
         ));
         assert!(is_unsound(|book| *book = Book {
             entries: [full_book().entries, vec![one_sale().entries[0]]].concat()

@@ -3,19 +3,27 @@
 use std::collections::HashMap;
 
 use crate::bundle::Record;
+use crate::cards::{CardRecord, CardUse, CardsOnLeg};
 use crate::layout::{ar, co, Table};
+use crate::question::{LARGEST_PLAIN_FARE, MOST_PERSONS};
 use crate::refusal::Refusal;
 use crate::rounding::{Reduction, Rounding};
 use crate::values::{NO_LEAST_PERSONS, NO_MOST_PERSONS};
 use crate::verdict::accepted_records;
 
-pub use crate::question::{Leg, Question, LEG_SLOTS, NO_CARD};
+pub use crate::question::{Leg, Question, LEG_SLOTS};
 
-pub const LARGEST_PART: u64 = 99_197_505;
 pub const LARGEST_FARE: u64 = 4_294_967_295;
+const MOST_ROUNDED_UP: u64 = 998;
 const EVERY_RAILWAY: u64 = 0;
 
 pub type Parts = [u64; LEG_SLOTS];
+
+/// No card has the bound of one.
+pub fn largest_part(cards: usize) -> u64 {
+    let roundings = 1 + cards.max(1) as u64;
+    MOST_PERSONS * (LARGEST_PLAIN_FARE + MOST_ROUNDED_UP * roundings)
+}
 
 #[derive(Clone, Copy, Debug, PartialEq, Eq)]
 pub enum Fare {
@@ -48,26 +56,22 @@ pub enum Source {
     Default,
 }
 
-#[derive(Clone, Copy, Debug, PartialEq, Eq)]
-pub enum CardUse {
-    None,
-    OutsideItsDays,
-    Reduces(Source, Reduction),
-}
-
 /// A leg's part and how it came about.
-#[derive(Clone, Copy, Debug, PartialEq, Eq)]
+#[derive(Clone, Debug, PartialEq, Eq)]
 pub struct PricedLeg {
     pub part: u64,
     pub source: Source,
     pub reduction: Reduction,
-    pub card: CardUse,
+    pub cards: CardsOnLeg,
 }
 
 pub fn priced_legs(bundle: &[u8], question: &Question) -> Result<Vec<PricedLeg>, Refusal> {
     let records = accepted_records(bundle)?;
     if !question.is_within_limits() {
         return Err(Refusal::of_call(11));
+    }
+    if question.gives_a_card_twice() {
+        return Err(Refusal::of_call(17));
     }
     let tariff = Tariff::of(&records);
     let mut legs = Vec::new();
@@ -87,17 +91,12 @@ fn price_leg(tariff: &Tariff, question: &Question, leg: &Leg) -> Result<PricedLe
         .conditions(question.offer, leg.railway)
         .ok_or(LegFault::NoConditions)?;
     conditions.check(question)?;
-    let reduced = conditions.reduction.apply(leg.fare);
-    let card = tariff.card_use(conditions, question, leg);
-    let per_person = match card {
-        CardUse::Reduces(_, reduction) => reduction.apply(reduced),
-        CardUse::None | CardUse::OutsideItsDays => reduced,
-    };
+    let cards = tariff.cards_on_leg(conditions, question, leg);
     Ok(PricedLeg {
-        part: per_person * question.persons,
+        part: cards.amount() * question.persons,
         source,
         reduction: conditions.reduction,
-        card,
+        cards,
     })
 }
 
@@ -149,7 +148,7 @@ struct Conditions {
     least_persons: u64,
     most_persons: u64,
     unread: Option<u8>,
-    allows_card: bool,
+    reads_cards: bool,
     reduction: Reduction,
 }
 
@@ -160,7 +159,7 @@ impl Conditions {
             least_persons: record.number_or(co::LEAST_PERSONS, NO_LEAST_PERSONS),
             most_persons: record.number_or(co::MOST_PERSONS, NO_MOST_PERSONS),
             unread: first_unread_condition(record),
-            allows_card: record.is_yes(co::ADDITIONAL_DISCOUNTS),
+            reads_cards: record.is_yes(co::ADDITIONAL_DISCOUNTS),
             reduction: reduction_of(record, co::DISCOUNT, co::ROUNDING, co::FACTOR),
         }
     }
@@ -195,6 +194,8 @@ fn reduction_of(record: &Record, discount: u8, rounding: u8, factor: u8) -> Redu
 
 struct CardDiscount {
     period: Period,
+    is_cumulative: bool,
+    rating: u64,
     reduction: Reduction,
 }
 
@@ -202,6 +203,8 @@ impl CardDiscount {
     fn of(record: &Record) -> CardDiscount {
         CardDiscount {
             period: Period::of(record, ar::FIRST_DAY, ar::LAST_DAY),
+            is_cumulative: record.is_yes(ar::CUMULATIVE),
+            rating: record.number_or(ar::RATING, 0),
             reduction: reduction_of(record, ar::DISCOUNT, ar::ROUNDING, ar::FACTOR),
         }
     }
@@ -241,18 +244,32 @@ impl Tariff {
         own_or_default(railway, |place| self.conditions.get(&(offer, place)))
     }
 
-    fn card_use(&self, conditions: &Conditions, question: &Question, leg: &Leg) -> CardUse {
-        if !conditions.allows_card || question.card == NO_CARD {
-            return CardUse::None;
+    fn cards_on_leg(&self, conditions: &Conditions, question: &Question, leg: &Leg) -> CardsOnLeg {
+        let use_of = |card| match conditions.reads_cards {
+            true => self.card_use(question, leg, card),
+            false => CardUse::None,
+        };
+        CardsOnLeg {
+            are_read: conditions.reads_cards,
+            uses: question.given_cards().into_iter().map(use_of).collect(),
+            after_conditions: conditions.reduction.apply(leg.fare),
         }
-        let (offer, card) = (question.offer, question.card);
+    }
+
+    fn card_use(&self, question: &Question, leg: &Leg, code: u64) -> CardUse {
         let found = own_or_default(leg.railway, |place| {
-            self.card_discounts.get(&(offer, place, card))
+            self.card_discounts.get(&(question.offer, place, code))
         });
         match found {
             None => CardUse::None,
             Some((_, discount)) if !discount.period.holds(question.day) => CardUse::OutsideItsDays,
-            Some((source, discount)) => CardUse::Reduces(source, discount.reduction),
+            Some((source, discount)) => CardUse::Applies(CardRecord {
+                code,
+                is_cumulative: discount.is_cumulative,
+                rating: discount.rating,
+                source,
+                reduction: discount.reduction,
+            }),
         }
     }
 }
@@ -307,13 +324,13 @@ mod tests {
 
     #[test]
     fn three_persons_pay_2274() {
-        let question = asked(3, 0, &[(1185, 1010)]);
+        let question = asked(3, &[], &[(1185, 1010)]);
         assert_eq!(total(&[quarter_off("1185")], &question), 2274);
     }
 
     #[test]
     fn parts_stand_in_the_order_of_legs() {
-        let question = asked(3, 0, &[(1185, 1010), (1181, 500)]);
+        let question = asked(3, &[], &[(1185, 1010), (1181, 500)]);
         let drafts = [quarter_off("1185"), conditions("1181")];
         assert_eq!(
             fare(&assemble(&drafts), &question),
@@ -327,9 +344,9 @@ mod tests {
     #[test]
     fn two_discounts_round_twice() {
         let drafts = [quarter_off("0000").with(33, "Y"), card_type(), card("0000")];
-        assert_eq!(total(&drafts, &asked(1, 7, &[(1185, 1010)])), 531);
-        assert_eq!(total(&drafts, &asked(1, 0, &[(1185, 1010)])), 758);
-        assert_eq!(total(&drafts, &asked(1, 8, &[(1185, 1010)])), 758);
+        assert_eq!(total(&drafts, &asked(1, &[7], &[(1185, 1010)])), 531);
+        assert_eq!(total(&drafts, &asked(1, &[], &[(1185, 1010)])), 758);
+        assert_eq!(total(&drafts, &asked(1, &[8], &[(1185, 1010)])), 758);
     }
 
     #[test]
@@ -342,37 +359,37 @@ mod tests {
             card_type(),
             card("0000").with(9, "-").with(10, "050"),
         ];
-        assert_eq!(total(&drafts, &asked(1, 0, &[(1185, 1010)])), 760);
-        assert_eq!(total(&drafts, &asked(1, 7, &[(1185, 1010)])), 500);
-        assert_eq!(total(&drafts, &asked(2, 7, &[(1185, 1010)])), 1000);
+        assert_eq!(total(&drafts, &asked(1, &[], &[(1185, 1010)])), 760);
+        assert_eq!(total(&drafts, &asked(1, &[7], &[(1185, 1010)])), 500);
+        assert_eq!(total(&drafts, &asked(2, &[7], &[(1185, 1010)])), 1000);
     }
 
     #[test]
     fn the_card_needs_flag_33() {
         let drafts = [quarter_off("0000"), card_type(), card("0000")];
-        assert_eq!(total(&drafts, &asked(1, 7, &[(1185, 1010)])), 758);
+        assert_eq!(total(&drafts, &asked(1, &[7], &[(1185, 1010)])), 758);
     }
 
     #[test]
     fn the_record_of_0000_is_a_default_only() {
         let drafts = [quarter_off("0000"), conditions("1185")];
-        assert_eq!(total(&drafts, &asked(1, 0, &[(1185, 1010)])), 1010);
-        assert_eq!(total(&drafts, &asked(1, 0, &[(1181, 1010)])), 758);
+        assert_eq!(total(&drafts, &asked(1, &[], &[(1185, 1010)])), 1010);
+        assert_eq!(total(&drafts, &asked(1, &[], &[(1181, 1010)])), 758);
         let cards = [
             conditions("0000").with(33, "Y"),
             card_type(),
             card("0000"),
             card("1185").with(ar::DISCOUNT, "050000"),
         ];
-        assert_eq!(total(&cards, &asked(1, 7, &[(1185, 1000)])), 500);
-        assert_eq!(total(&cards, &asked(1, 7, &[(1181, 1000)])), 700);
+        assert_eq!(total(&cards, &asked(1, &[7], &[(1185, 1000)])), 500);
+        assert_eq!(total(&cards, &asked(1, &[7], &[(1181, 1000)])), 700);
     }
 
     #[test]
     fn the_additional_is_chosen_by_the_railway_of_the_leg() {
         let drafts = [conditions("0000").with(33, "Y"), card_type(), card("1185")];
-        assert_eq!(total(&drafts, &asked(1, 7, &[(1185, 1000)])), 700);
-        assert_eq!(total(&drafts, &asked(1, 7, &[(1181, 1000)])), 1000);
+        assert_eq!(total(&drafts, &asked(1, &[7], &[(1185, 1000)])), 700);
+        assert_eq!(total(&drafts, &asked(1, &[7], &[(1181, 1000)])), 1000);
     }
 
     #[test]
@@ -384,23 +401,23 @@ mod tests {
             card("1185").with(ar::CODE, "008"),
             card("0000"),
         ];
-        assert_eq!(total(&drafts, &asked(1, 7, &[(1185, 1000)])), 700);
-        assert_eq!(total(&drafts, &asked(1, 8, &[(1181, 1000)])), 1000);
+        assert_eq!(total(&drafts, &asked(1, &[7], &[(1185, 1000)])), 700);
+        assert_eq!(total(&drafts, &asked(1, &[8], &[(1181, 1000)])), 1000);
     }
 
     #[test]
     fn no_fallback_on_a_date() {
         let past = |draft: Draft, first, last| draft.with(first, "20230101").with(last, "20231231");
         let drafts = [past(conditions("1185"), 42, 44), quarter_off("0000")];
-        assert_eq!(refusal(&drafts, &asked(1, 0, &[(1185, 10)])), (13, 0, 0));
+        assert_eq!(refusal(&drafts, &asked(1, &[], &[(1185, 10)])), (13, 0, 0));
         let cards = [
             conditions("0000").with(33, "Y"),
             card_type(),
             past(card("1185"), 11, 13),
             card("0000"),
         ];
-        assert_eq!(total(&cards, &asked(1, 7, &[(1185, 1000)])), 1000);
-        assert_eq!(total(&cards, &asked(1, 7, &[(1181, 1000)])), 700);
+        assert_eq!(total(&cards, &asked(1, &[7], &[(1185, 1000)])), 1000);
+        assert_eq!(total(&cards, &asked(1, &[7], &[(1181, 1000)])), 700);
     }
 
     #[test]
@@ -410,7 +427,7 @@ mod tests {
             .with(co::LAST_DAY, "20240616")];
         let on = |day| Question {
             day,
-            ..asked(1, 0, &[(1185, 7)])
+            ..asked(1, &[], &[(1185, 7)])
         };
         assert_eq!(refusal(&drafts, &on(20240613)), (13, 0, 0));
         assert_eq!(total(&drafts, &on(20240614)), 7);
@@ -427,7 +444,7 @@ mod tests {
         ];
         let on = |day| Question {
             day,
-            ..asked(1, 7, &[(1185, 1000)])
+            ..asked(1, &[7], &[(1185, 1000)])
         };
         assert_eq!(total(&drafts, &on(20240614)), 1000);
         assert_eq!(total(&drafts, &on(20240615)), 700);
@@ -439,7 +456,7 @@ mod tests {
         let answered = |least: &str, most: &str, persons| {
             let draft = conditions("0000").with(28, least).with(29, most);
             matches!(
-                fare(&assemble(&[draft]), &asked(persons, 0, &[(1185, 7)])),
+                fare(&assemble(&[draft]), &asked(persons, &[], &[(1185, 7)])),
                 Fare::Priced { .. }
             )
         };
@@ -449,12 +466,12 @@ mod tests {
         assert!(answered("  ", "05", 5) && !answered("  ", "05", 6));
         assert!(!answered("99", "99", 98) && answered("99", "99", 99));
         let drafts = [conditions("0000").with(28, "02")];
-        assert_eq!(refusal(&drafts, &asked(1, 0, &[(1185, 7)])), (14, 0, 0));
+        assert_eq!(refusal(&drafts, &asked(1, &[], &[(1185, 7)])), (14, 0, 0));
     }
 
     #[test]
     fn unread_conditions() {
-        let asked_once = asked(1, 0, &[(1185, 7)]);
+        let asked_once = asked(1, &[], &[(1185, 7)]);
         for field in [27, 31, 32, 34, 35] {
             let drafts = [conditions("0000").with(field, "Y")];
             assert_eq!(refusal(&drafts, &asked_once), (15, 0, u64::from(field)));
@@ -480,7 +497,7 @@ mod tests {
             .with(co::LAST_DAY, "20240601")
             .with(28, "05")
             .with(31, "Y")];
-        let question = asked(1, 0, &[(1185, 7)]);
+        let question = asked(1, &[], &[(1185, 7)]);
         assert_eq!(refusal(&drafts, &question), (13, 0, 0));
         let earlier = Question {
             day: 20240601,
@@ -497,16 +514,16 @@ mod tests {
     #[test]
     fn a_leg_is_judged_wholly_before_the_next() {
         let drafts = [conditions("1185").with(35, "Y"), conditions("1181")];
-        let question = asked(1, 0, &[(1181, 7), (1185, 7), (9999, 7)]);
+        let question = asked(1, &[], &[(1181, 7), (1185, 7), (9999, 7)]);
         assert_eq!(refusal(&drafts, &question), (15, 1, 35));
         let drafts = [conditions("1185"), conditions("1181").with(35, "Y")];
-        let question = asked(1, 0, &[(1185, 7), (9999, 7), (1181, 7)]);
+        let question = asked(1, &[], &[(1185, 7), (9999, 7), (1181, 7)]);
         assert_eq!(refusal(&drafts, &question), (12, 1, 0));
     }
 
     #[test]
     fn an_unknown_offer_is_12_at_leg_0() {
-        let question = asked(1, 0, &[(1185, 7)]);
+        let question = asked(1, &[], &[(1185, 7)]);
         assert_eq!(refusal(&[], &question), (12, 0, 0));
         let other = conditions("0000").with(co::OFFER, "00043");
         assert_eq!(refusal(&[other], &question), (12, 0, 0));
@@ -524,13 +541,13 @@ mod tests {
 
     #[test]
     fn the_same_railway_may_come_twice() {
-        let question = asked(1, 0, &[(1185, 7), (1185, 8)]);
+        let question = asked(1, &[], &[(1185, 7), (1185, 8)]);
         assert_eq!(total(&[conditions("0000")], &question), 15);
     }
 
     #[test]
     fn junk_in_unused_slots_changes_nothing() {
-        let mut question = asked(1, 0, &[(1185, 7)]);
+        let mut question = asked(1, &[], &[(1185, 7)]);
         question.legs[1] = Leg {
             railway: 77_777,
             fare: u64::MAX,
@@ -551,10 +568,106 @@ mod tests {
                 .with(9, "+")
                 .with(10, "997"),
         ];
-        let part = total(&drafts, &asked(99, 7, &[(1185, 999_999)]));
+        let part = total(&drafts, &asked(99, &[7], &[(1185, 999_999)]));
         assert_eq!(part, 99_196_515);
-        assert!(part <= LARGEST_PART);
-        let eight = asked(99, 7, &[(1185, 999_999); 8]);
+        assert!(part <= largest_part(1));
+        let eight = asked(99, &[7], &[(1185, 999_999); 8]);
         assert_eq!(total(&drafts, &eight), 8 * part);
+    }
+
+    #[test]
+    fn bounds_of_a_part() {
+        let bounds = [99_197_505, 99_197_505, 99_296_307, 99_395_109, 99_493_911];
+        for (cards, bound) in bounds.into_iter().enumerate() {
+            assert_eq!(largest_part(cards), bound);
+        }
+    }
+
+    /// A card of this code with a rating, a discount and a rounding.
+    fn rated(code: &str, rating: &str, discount: &str, rounding: &str, factor: &str) -> [Draft; 2] {
+        let record = card("0000")
+            .with(ar::CODE, code)
+            .with(ar::CUMULATIVE, "Y")
+            .with(ar::RATING, rating)
+            .with(ar::DISCOUNT, discount)
+            .with(ar::ROUNDING, rounding)
+            .with(ar::FACTOR, factor);
+        [Draft::plain(Table::Re).with(re::CODE, code), record]
+    }
+
+    fn with_cards(cards: &[[Draft; 2]]) -> Vec<Draft> {
+        let conditions = conditions("0000").with(33, "Y");
+        [conditions].into_iter().chain(cards.concat()).collect()
+    }
+
+    #[test]
+    fn cards_are_applied_in_rising_rating_whatever_their_slots() {
+        let half_first = with_cards(&[
+            rated("007", "001", "050000", "+", "050"),
+            rated("005", "002", "025000", "-", "100"),
+        ]);
+        let quarter_first = with_cards(&[
+            rated("007", "002", "050000", "+", "050"),
+            rated("005", "001", "025000", "-", "100"),
+        ]);
+        for cards in [[5, 7], [7, 5]] {
+            let question = asked(1, &cards, &[(1185, 134)]);
+            assert_eq!(total(&half_first, &question), 0);
+            assert_eq!(total(&quarter_first, &question), 50);
+        }
+    }
+
+    #[test]
+    fn the_cheaper_of_two_cards_is_no_choice_where_both_are_cumulative() {
+        let drafts = with_cards(&[
+            rated("005", "001", "050000", "N", "000"),
+            rated("007", "002", "001000", "+", "500"),
+        ]);
+        assert_eq!(total(&drafts, &asked(1, &[5, 7], &[(1185, 1)])), 500);
+        assert_eq!(total(&drafts, &asked(1, &[5], &[(1185, 1)])), 1);
+    }
+
+    #[test]
+    fn each_leg_takes_its_own_least() {
+        let mut drafts = with_cards(&[
+            rated("005", "001", "010000", "N", "000"),
+            rated("007", "001", "020000", "N", "000"),
+        ]);
+        let own = rated("007", "001", "050000", "N", "000")[1].clone();
+        drafts.push(own.with(ar::RAILWAY, "1181").with(ar::CUMULATIVE, "N"));
+        let question = asked(2, &[7, 9, 5], &[(1185, 1000), (1181, 1000)]);
+        assert_eq!(total(&drafts, &question), 2 * 720 + 2 * 500);
+        let late = rated("005", "001", "010000", "N", "000")[1].clone();
+        drafts.push(late.with(ar::RAILWAY, "1185").with(13, "20240614"));
+        assert_eq!(total(&drafts, &question), 2 * 800 + 2 * 500);
+    }
+
+    #[test]
+    fn several_cards_need_flag_33() {
+        let mut drafts = with_cards(&[
+            rated("005", "001", "010000", "N", "000"),
+            rated("007", "001", "020000", "N", "000"),
+        ]);
+        drafts.push(conditions("1185"));
+        let question = asked(1, &[5, 7], &[(1185, 1000), (1181, 1000)]);
+        assert_eq!(total(&drafts, &question), 1000 + 720);
+    }
+
+    #[test]
+    fn a_card_twice_is_17_after_11_and_before_the_legs() {
+        let twice = asked(1, &[7, 5, 7], &[(1185, 7)]);
+        assert_eq!(refusal(&[], &twice), (17, 0, 0));
+        assert_eq!(refusal(&[conditions("0000")], &twice), (17, 0, 0));
+        let double = [conditions("0000"), conditions("0000")];
+        assert_eq!(refusal(&double, &twice), (6, 1, 0));
+        for cards in [
+            [7, 7, 0, 1000],
+            [1000, 1000, 0, 0],
+            [0, 7, 7, 0],
+            [7, 0, 7, 0],
+        ] {
+            let question = Question { cards, ..twice };
+            assert_eq!(refusal(&[], &question), (11, 0, 0), "{cards:?}");
+        }
     }
 }

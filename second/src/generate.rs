@@ -2,6 +2,7 @@
 
 pub mod books;
 pub mod breakage;
+pub mod cards;
 pub mod corpus;
 pub mod damage;
 pub mod drafts;

@@ -63,6 +63,8 @@ pub mod ar {
     pub const RAILWAY: u8 = 3;
     pub const CODE: u8 = 4;
     pub const DISCOUNT: u8 = 5;
+    pub const CUMULATIVE: u8 = 6;
+    pub const RATING: u8 = 7;
     pub const ROUNDING: u8 = 9;
     pub const FACTOR: u8 = 10;
     pub const FIRST_DAY: u8 = 11;

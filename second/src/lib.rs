@@ -1,9 +1,10 @@
-//! Independent second program, rendering document 01 as a whole, one module per section.
+//! Independent second program, rendering document 01 as a whole and R-1 of document 02, one module per section or request.
 
 pub mod against;
 pub mod book;
 pub mod bundle;
 pub mod calendar;
+pub mod cards;
 pub mod fare;
 pub mod generate;
 pub mod layout;

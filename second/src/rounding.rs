@@ -50,6 +50,19 @@ impl Reduction {
     }
 }
 
+/// All discounts first and then the last rounding: no rule, but what a wrong one would give. None without reductions.
+pub fn rounded_once(reductions: &[Reduction], amount: u64) -> Option<u64> {
+    let last = reductions.last()?;
+    let left = |reduction: &Reduction| u128::from(WHOLE_DISCOUNT - reduction.discount);
+    let numerator: u128 = reductions.iter().map(left).product();
+    let denominator = u128::from(WHOLE_DISCOUNT).pow(reductions.len() as u32);
+    Some(round(
+        u128::from(amount) * numerator,
+        denominator,
+        last.rounding,
+    ))
+}
+
 fn round(numerator: u128, denominator: u128, rounding: Rounding) -> u64 {
     let step = u128::from(rounding.step());
     let whole_step = step * denominator;
@@ -112,6 +125,16 @@ mod tests {
         let first = reduced(1010, 25_000, b'N', 0);
         assert_eq!(first, 758);
         assert_eq!(reduced(first, 30_000, b'N', 0), 531);
+    }
+
+    #[test]
+    fn both_discounts_rounded_once_are_another_amount() {
+        let by = |discount| Reduction {
+            discount,
+            rounding: Rounding::NearestCent,
+        };
+        assert_eq!(rounded_once(&[by(25_000), by(30_000)], 1010), Some(530));
+        assert_eq!(rounded_once(&[], 1010), None);
     }
 
     #[test]

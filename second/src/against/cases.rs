@@ -3,11 +3,11 @@
 use std::io;
 
 use super::histories;
-use super::wire::{Call, Lent, Name};
+use super::wire::{Answer, Call, Lent, Name};
 use super::Bench;
 use crate::book::words::{empty_book, words_of_book, BOOK_WORDS};
 use crate::bundle::LONGEST_BUNDLE;
-use crate::generate::books::{sale_number, sound_book, BookDefect};
+use crate::generate::books::{book_at_the_bound, sale_number, sound_book, BookDefect};
 use crate::generate::breakage::{every_breakage, Breakage};
 use crate::generate::corpus::{every_row, Corpus};
 use crate::generate::damage::with_broken_field;
@@ -16,13 +16,15 @@ use crate::generate::histories::{any_bundle, drawn_bundles, drawn_step};
 use crate::generate::questions::{question, question_in_limits};
 use crate::generate::random::Random;
 use crate::generate::valid::{sized_bundle_with_memos, valid_bundle};
-use crate::layout::{ar, co, Table};
+use crate::layout::{ar, co, re, Table};
 use crate::program::LONGEST_INPUT;
-use crate::question::{Leg, Question, LARGEST_PLAIN_FARE, LEG_SLOTS, MOST_PERSONS};
+use crate::question::{
+    cards_of, Leg, Question, CARD_SLOTS, LARGEST_PLAIN_FARE, LEG_SLOTS, MOST_PERSONS,
+};
 
 const QUESTIONS_PER_BUNDLE: u64 = 6;
 const STEPS_PER_BOOK: u64 = 8;
-const BOOKS_PER_DEFECT: u64 = 4;
+const BOOKS_PER_KIND: u64 = 4;
 const TILLS: [u64; 5] = [0, 1, 65_535, 65_536, u32::MAX as u64];
 const SEQUENCES: [u64; 5] = [0, 1, (1 << 32) - 1, 1 << 32, u64::MAX];
 const COUNTS: [u64; 4] = [0, 8, 9, u32::MAX as u64];
@@ -69,7 +71,7 @@ impl Cases {
             turn @ 0..=3 => self.verdict(bench, random, round * 4 + turn),
             4 | 5 => fares(bench, random),
             6 => sound(bench, random),
-            7 => malformed(bench, random, round),
+            7 => lent_books(bench, random, round),
             8 if round == 0 => overlong(bench, random),
             8 => limits(bench, random),
             _ => histories::run(bench, random, round),
@@ -145,39 +147,58 @@ fn sound(bench: &mut Bench, random: &mut Random) -> io::Result<()> {
     Ok(())
 }
 
-fn malformed(bench: &mut Bench, random: &mut Random, turn: u64) -> io::Result<()> {
-    let turn = turn as usize % (BookDefect::ALL.len() + WRONG_LENGTHS.len());
-    for _ in 0..BOOKS_PER_DEFECT {
-        let book = match BookDefect::ALL.get(turn) {
-            Some(defect) => defect.example(random),
-            None => book_of_length(random, WRONG_LENGTHS[turn - BookDefect::ALL.len()]),
-        };
-        bench
-            .coverage
-            .note_malformed(&kinds_of_malformed_books()[turn]);
-        each_call_on(bench, random, &book)?;
+/// Malformed books of every kind, and sound ones at their bounds.
+fn lent_books(bench: &mut Bench, random: &mut Random, turn: u64) -> io::Result<()> {
+    let kinds = kinds_of_malformed_books();
+    let turn = turn as usize % (kinds.len() + CARD_SLOTS + 1);
+    for _ in 0..BOOKS_PER_KIND {
+        match kinds.get(turn) {
+            Some(kind) => malformed(bench, random, turn, kind)?,
+            None => at_the_bound(bench, random, turn - kinds.len())?,
+        }
     }
     Ok(())
 }
 
-fn each_call_on(bench: &mut Bench, random: &mut Random, book: &[u32]) -> io::Result<()> {
+fn malformed(bench: &mut Bench, random: &mut Random, turn: usize, kind: &str) -> io::Result<()> {
+    let defects = BookDefect::all();
+    let book = match defects.get(turn) {
+        Some(defect) => defect.example(random),
+        None => book_of_length(random, WRONG_LENGTHS[turn - defects.len()]),
+    };
+    bench.coverage.note_malformed(kind);
+    each_call_on(bench, random, &book)?;
+    Ok(())
+}
+
+fn at_the_bound(bench: &mut Bench, random: &mut Random, cards: usize) -> io::Result<()> {
+    let book = words_of_book(&book_at_the_bound(random, cards));
+    let total = each_call_on(bench, random, &book.expect("a sound book fits its words"))?;
+    bench.coverage.note_at_the_bound(cards, &total);
+    Ok(())
+}
+
+/// The answer to the last, which is the total.
+fn each_call_on(bench: &mut Bench, random: &mut Random, book: &[u32]) -> io::Result<Answer> {
     let bundle = valid_bundle(random);
     let (till, sequence) = known_or_drawn_number(random, book);
     let asked = question(random, &bundle);
+    let lent = Lent::of(&bundle, book);
     for call in [
         Call::sale(till, sequence, &asked),
         Call::cancel(till, sequence),
         Call::balance(random.pick(&RAILWAYS)),
         Call::balance(random.between(1, 9999)),
-        Call::of(Name::Total),
     ] {
-        bench.ask(&call, &Lent::of(&bundle, book))?;
+        bench.ask(&call, &lent)?;
     }
-    Ok(())
+    let total = bench.ask_held(&Call::of(Name::Total), &lent, &[])?;
+    Ok(total.second)
 }
 
 pub fn kinds_of_malformed_books() -> Vec<String> {
-    let defects = BookDefect::ALL.iter().map(|defect| format!("{defect:?}"));
+    let all = BookDefect::all();
+    let defects = all.iter().map(|defect| format!("{defect:?}"));
     let lengths = WRONG_LENGTHS.iter().map(|length| format!("{length} words"));
     defects.chain(lengths).collect()
 }
@@ -207,7 +228,8 @@ fn limits(bench: &mut Bench, random: &mut Random) -> io::Result<()> {
             fare: random.between_with_ends(0, 999_999),
         };
     }
-    bench.ask(&Call::fare(&most_asked()), &lent)?;
+    let cards = random.place_in(CARD_SLOTS + 1);
+    bench.ask(&Call::fare(&most_asked(cards)), &lent)?;
     for till in TILLS {
         let sequence = random.pick(&SEQUENCES);
         bench.ask(&Call::sale(till, sequence, &asked), &lent)?;
@@ -230,19 +252,27 @@ fn limits(bench: &mut Bench, random: &mut Random) -> io::Result<()> {
     Ok(())
 }
 
-/// Both records round up by as much as there is.
+const COSTLY_CARDS: [u64; CARD_SLOTS] = [7, 8, 9, 10];
+
+/// All records round up by as much as there is.
 fn costliest_offer() -> Vec<u8> {
     let conditions = Draft::plain(Table::Co).with(co::ADDITIONAL_DISCOUNTS, "Y");
-    assemble(&[
-        conditions.with(co::ROUNDING, "+").with(co::FACTOR, "998"),
-        Draft::plain(Table::Re),
-        Draft::plain(Table::Ar)
-            .with(ar::ROUNDING, "+")
-            .with(ar::FACTOR, "997"),
-    ])
+    let mut drafts = vec![conditions.with(co::ROUNDING, "+").with(co::FACTOR, "998")];
+    for (place, code) in (0..).zip(COSTLY_CARDS) {
+        let mut kind = Draft::plain(Table::Re);
+        kind.write_number(re::CODE, code);
+        let mut additional = Draft::plain(Table::Ar)
+            .with(ar::CUMULATIVE, "Y")
+            .with(ar::ROUNDING, "+");
+        additional.write_number(ar::CODE, code);
+        additional.write_number(ar::RATING, 1 + place);
+        additional.write_number(ar::FACTOR, 997 - place);
+        drafts.extend([kind, additional]);
+    }
+    assemble(&drafts)
 }
 
-fn most_asked() -> Question {
+fn most_asked(cards: usize) -> Question {
     let leg = Leg {
         railway: 1185,
         fare: LARGEST_PLAIN_FARE,
@@ -251,7 +281,7 @@ fn most_asked() -> Question {
         offer: 42,
         day: 20240615,
         persons: MOST_PERSONS,
-        card: 7,
+        cards: cards_of(&COSTLY_CARDS[..cards]),
         leg_count: LEG_SLOTS as u64,
         legs: [leg; LEG_SLOTS],
     }

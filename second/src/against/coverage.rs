@@ -6,10 +6,14 @@ use std::fmt::Write;
 use super::cases::kinds_of_malformed_books;
 use super::wire::{outcome, Answer, Call, Lent, Name};
 use crate::bundle::{readable_records, LONGEST_BUNDLE};
-use crate::fare::{priced_legs, CardUse, PricedLeg, Source};
+use crate::cards::kinds::{cheaper_choices, kinds_of, names, other_rules, uses_beside};
+use crate::cards::CardUse;
+use crate::fare::{largest_part, priced_legs, PricedLeg, Source};
+use crate::generate::cards::{Slots, PAIRS_OF_SLOTS};
 use crate::generate::corpus::every_row;
 use crate::generate::resent::Change;
 use crate::layout::{co, Table};
+use crate::question::{Question, CARD_SLOTS, LARGEST_CARD, LEG_SLOTS, NO_CARDS};
 use crate::rounding::{Reduction, Rounding};
 
 const ANSWERED: &str = "answered";
@@ -27,9 +31,22 @@ const LEG_COUNT: &str = "leg count";
 const RAILWAY: &str = "railway asked";
 const GREATEST_FARE: &str = "greatest fare";
 const UNUSED_LEGS: &str = "unused legs";
+const CARDS_IN_FARE: &str = "cards in a fare";
+const CARDS_IN_SALE: &str = "cards in a sale";
+const CARDS_DECIDE: &str = "cards decide";
+const BESIDE: &str = "beside a card";
+const DEARER: &str = "dearer than";
+const NOT_AS_BY: &str = "not as by";
+const CARD_OVER: &str = "11, card in slot";
+const CARD_GAP: &str = "11, card slots";
+const CARD_TWICE: &str = "17, slots";
+const TWICE_BEFORE: &str = "17 before";
+const BEFORE_TWICE: &str = "before 17";
+const AT_THE_BOUND: &str = "parts at bound";
 const MALFORMED: &str = "malformed book";
 const SETTLED: &str = "settled after";
 const REFUSED: &str = "refused";
+const VERDICT: &str = "1 to 7";
 const OUTCOMES: [&str; 5] = [
     "booked",
     "already booked, live",
@@ -37,8 +54,14 @@ const OUTCOMES: [&str; 5] = [
     "cancelled",
     "already cancelled",
 ];
-/// Eight legs and 99 persons at 999,999, rounded up by 998 and then by 997.
-const GREATEST_PRICED: u64 = 8 * 99 * 1_001_985;
+/// Eight legs and 99 persons at 999,999, rounded up by 998, and then by 997 to 994 for each card in turn.
+const GREATEST_PRICED: [u64; CARD_SLOTS + 1] = [
+    8 * 99 * 1_000_994,
+    8 * 99 * 1_001_985,
+    8 * 99 * 1_002_972,
+    8 * 99 * 1_003_955,
+    8 * 99 * 1_004_934,
+];
 const WIDEST_LINE: usize = 110;
 
 type Point = (String, String);
@@ -56,6 +79,13 @@ impl Coverage {
 
     pub fn note_malformed(&mut self, kind: &str) {
         self.meet(MALFORMED, kind);
+    }
+
+    /// A book with parts at the bound of so many cards, and its total.
+    pub fn note_at_the_bound(&mut self, cards: usize, total: &Answer) {
+        if total.number == 0 {
+            self.meet(AT_THE_BOUND, of_cards(cards));
+        }
     }
 
     /// All balances and the total were asked after it.
@@ -78,6 +108,9 @@ impl Coverage {
         self.note_arguments(call, lent);
         if answer.number != 0 {
             self.meet(call.name.word(), answer.number);
+            if matches!(call.name, Name::Fare | Name::Sale) {
+                self.note_refused_cards(&call.question, lent, answer);
+            }
             return self.note_detail(lent, answer);
         }
         self.meet(call.name.word(), ANSWERED);
@@ -85,7 +118,7 @@ impl Coverage {
             self.meet(OUTCOME, outcome);
         }
         let is_priced = call.name == Name::Fare || answer.outcome == outcome::BOOKED;
-        if call.name == Name::Fare && answer.value == GREATEST_PRICED {
+        if call.name == Name::Fare && GREATEST_PRICED.contains(&answer.value) {
             self.meet(GREATEST_FARE, answer.value);
         }
         if is_priced {
@@ -121,25 +154,89 @@ impl Coverage {
         }
     }
 
+    fn note_refused_cards(&mut self, question: &Question, lent: &Lent, answer: &Answer) {
+        if answer.number == 11 {
+            self.note_cards_out_of_limits(question);
+        }
+        if !question.gives_a_card_twice() {
+            return;
+        }
+        match answer.number {
+            1..=7 => self.meet(BEFORE_TWICE, VERDICT),
+            17 => self.note_card_twice(question, lent),
+            other => self.meet(BEFORE_TWICE, other),
+        }
+    }
+
+    /// Only where nothing else is out of its limits.
+    fn note_cards_out_of_limits(&mut self, question: &Question) {
+        if !without_cards(question).is_within_limits() {
+            return;
+        }
+        let slots = Slots::of(&question.cards);
+        let is_over = |slot: &usize| question.cards[*slot] > LARGEST_CARD;
+        let over: Vec<usize> = (0..CARD_SLOTS).filter(is_over).collect();
+        match over[..] {
+            [] => self.meet(CARD_GAP, slots),
+            [slot] if !slots.have_a_gap() => self.meet(CARD_OVER, slot),
+            _ => (),
+        }
+    }
+
+    fn note_card_twice(&mut self, question: &Question, lent: &Lent) {
+        let is_same = |pair: &(usize, usize)| {
+            let card = question.cards[pair.0];
+            card > 0 && card == question.cards[pair.1]
+        };
+        let pairs = PAIRS_OF_SLOTS.into_iter().filter(is_same);
+        if let [pair] = pairs.collect::<Vec<_>>()[..] {
+            self.meet(CARD_TWICE, of_pair(pair));
+        }
+        if let Err(refusal) = priced_legs(lent.bundle, &without_cards(question)) {
+            self.meet(TWICE_BEFORE, refusal.number);
+        }
+    }
+
     fn note_pricing(&mut self, call: &Call, lent: &Lent) {
         let question = &call.question;
         if *question != question.with_unused_slots_zero() {
             self.meet(UNUSED_LEGS, "filled, and priced");
         }
+        let cards = match call.name {
+            Name::Fare => CARDS_IN_FARE,
+            _ => CARDS_IN_SALE,
+        };
+        self.meet(cards, question.given_cards().len());
         for leg in priced_legs(lent.bundle, question).unwrap_or_default() {
             self.note_leg(&leg);
+            self.note_cards(&leg);
         }
     }
 
     fn note_leg(&mut self, leg: &PricedLeg) {
         self.meet(CO_ROUNDING, letter(&leg.reduction));
         self.meet(CO_SOURCE, source(leg.source));
-        match leg.card {
-            CardUse::None => (),
-            CardUse::OutsideItsDays => self.meet(AR_SOURCE, "outside its days"),
-            CardUse::Reduces(from, reduction) => {
-                self.meet(AR_ROUNDING, letter(&reduction));
-                self.meet(AR_SOURCE, source(from));
+        for used in &leg.cards.uses {
+            match used {
+                CardUse::None => (),
+                CardUse::OutsideItsDays => self.meet(AR_SOURCE, "outside its days"),
+                CardUse::Applies(record) => {
+                    self.meet(AR_ROUNDING, letter(&record.reduction));
+                    self.meet(AR_SOURCE, source(record.source));
+                }
+            }
+        }
+    }
+
+    fn note_cards(&mut self, leg: &PricedLeg) {
+        for (group, names) in [
+            (CARDS_DECIDE, kinds_of(&leg.cards)),
+            (BESIDE, uses_beside(&leg.cards)),
+            (DEARER, cheaper_choices(&leg.cards)),
+            (NOT_AS_BY, other_rules(&leg.cards)),
+        ] {
+            for name in names {
+                self.meet(group, name);
             }
         }
     }
@@ -172,9 +269,28 @@ impl Coverage {
             width += 2 + cell.len();
             group = point.0;
         }
-        table.push_str("\n16                never met, as no fare is above 793580040\n");
+        let greatest = LEG_SLOTS as u64 * largest_part(CARD_SLOTS);
+        let _ = writeln!(
+            table,
+            "\n16                never met, as no fare is above {greatest}"
+        );
         table.trim_start().to_string()
     }
+}
+
+fn without_cards(question: &Question) -> Question {
+    Question {
+        cards: NO_CARDS,
+        ..*question
+    }
+}
+
+fn of_pair((one, other): (usize, usize)) -> String {
+    format!("{one} and {other}")
+}
+
+fn of_cards(count: usize) -> String {
+    format!("of {count} cards")
 }
 
 fn outcome_of(answer: &Answer) -> Option<&'static str> {
@@ -216,8 +332,8 @@ fn source(source: Source) -> &'static str {
 fn numbers_of(name: Name) -> &'static [u64] {
     match name {
         Name::Verdict => &[1, 2, 3, 4, 5, 6, 7],
-        Name::Fare => &[1, 2, 3, 4, 5, 6, 7, 11, 12, 13, 14, 15],
-        Name::Sale => &[1, 2, 3, 4, 5, 6, 7, 11, 12, 13, 14, 15, 21, 22, 23, 24],
+        Name::Fare => &[1, 2, 3, 4, 5, 6, 7, 11, 17, 12, 13, 14, 15],
+        Name::Sale => &[1, 2, 3, 4, 5, 6, 7, 11, 17, 12, 13, 14, 15, 21, 22, 23, 24],
         Name::Cancel => &[21, 22, 25],
         Name::Balance => &[11, 21],
         Name::Total => &[21],
@@ -229,6 +345,7 @@ fn every_point() -> Vec<Point> {
     let mut groups = groups_of_numbers();
     groups.extend(groups_of_histories());
     groups.extend(groups_of_pricing());
+    groups.extend(groups_of_cards());
     groups.extend(groups_of_arguments());
     let points_of = |(group, items): (String, Vec<String>)| {
         let point = move |item| (group.clone(), item);
@@ -276,8 +393,28 @@ fn groups_of_pricing() -> Vec<Group> {
         group(AR_ROUNDING, &["+", "-", "0", "N"]),
         group(CO_SOURCE, &["own", "0000"]),
         group(AR_SOURCE, &["own", "0000", "outside its days"]),
-        group(GREATEST_FARE, &[GREATEST_PRICED]),
+        group(GREATEST_FARE, &GREATEST_PRICED),
         group(UNUSED_LEGS, &["filled, and priced"]),
+    ]
+}
+
+fn groups_of_cards() -> Vec<Group> {
+    let counts: Vec<usize> = (0..=CARD_SLOTS).collect();
+    let slots: Vec<usize> = (0..CARD_SLOTS).collect();
+    let bounds: Vec<String> = counts.iter().copied().map(of_cards).collect();
+    vec![
+        group(CARDS_IN_FARE, &counts),
+        group(CARDS_IN_SALE, &counts),
+        group(CARDS_DECIDE, &names::of_decisions()),
+        group(BESIDE, &names::of_uses()),
+        group(DEARER, &names::of_cheaper_choices()),
+        group(NOT_AS_BY, &names::of_other_rules()),
+        group(CARD_OVER, &slots),
+        group(CARD_GAP, &Slots::with_a_gap()),
+        group(CARD_TWICE, &PAIRS_OF_SLOTS.map(of_pair)),
+        group(TWICE_BEFORE, &[12, 13, 14, 15]),
+        group(BEFORE_TWICE, &[VERDICT, "11", "23", "24"]),
+        group(AT_THE_BOUND, &bounds),
     ]
 }
 

@@ -11,22 +11,23 @@ use crate::fare::{fare, Fare};
 use crate::generate::books::sale_number;
 use crate::generate::drafts::{assemble, Draft};
 use crate::generate::histories::{drawn_bundles, drawn_step, starting_book, Step};
-use crate::generate::questions::{question_in_limits, with_legs};
+use crate::generate::questions::{question_in_limits, with_cards, with_legs};
 use crate::generate::random::Random;
 use crate::generate::resent::{Change, Sent};
 use crate::layout::Table;
-use crate::question::{is_railway, Question, LEG_SLOTS};
+use crate::question::{is_railway, Question, CARD_SLOTS, LEG_SLOTS};
 
 const MIXED_STEPS: u64 = 40;
 const STEPS_OF_A_FULL_BOOK: u64 = 30;
 const STEPS_BEFORE_RESENDING: u64 = 6;
 
 pub fn run(bench: &mut Bench, random: &mut Random, turn: u64) -> io::Result<()> {
-    let legs = 1 + turn as usize / 8 % LEG_SLOTS;
+    let eighth = turn as usize / 8;
+    let (legs, cards) = (1 + eighth % LEG_SLOTS, eighth % (CARD_SLOTS + 1));
     match turn % 16 {
         0 => filling(bench, random),
         1 | 9 => mixed(bench, random, starting_book),
-        2 | 10 => resending(bench, random, legs),
+        2 | 10 => resending(bench, random, legs, cards),
         _ => mixed(bench, random, |_| empty_book()),
     }
 }
@@ -169,11 +170,12 @@ fn filling(bench: &mut Bench, random: &mut Random) -> io::Result<()> {
     Ok(())
 }
 
-/// A sale of so many legs, sent again with every change there is, before its cancellation and after it.
-fn resending(bench: &mut Bench, random: &mut Random, legs: usize) -> io::Result<()> {
+/// A sale of so many legs and cards, sent again with every change there is, before its cancellation and after it.
+fn resending(bench: &mut Bench, random: &mut Random, legs: usize, cards: usize) -> io::Result<()> {
     let mut bundles = drawn_bundles(random);
     let question = priceable(random, &mut bundles);
     let question = with_legs(random, &question, legs);
+    let question = with_cards(random, &question, cards);
     let mut course = Course::from(bundles, empty_book());
     for _ in 0..STEPS_BEFORE_RESENDING {
         course.take_drawn(bench, random)?;

@@ -94,7 +94,7 @@ mod tests {
     use crate::generate::drafts::{assemble, Draft};
     use crate::generate::random::Random;
     use crate::layout::{co, Table};
-    use crate::question::{asked, NO_CARD};
+    use crate::question::asked;
 
     fn bundle() -> Vec<u8> {
         let reduced = Draft::plain(Table::Co).with(co::RAILWAY, "1185");
@@ -109,7 +109,7 @@ mod tests {
     }
 
     fn two_legs() -> Question {
-        asked(3, NO_CARD, &[(1185, 1010), (1181, 500)])
+        asked(3, &[], &[(1185, 1010), (1181, 500)])
     }
 
     fn sale(sequence: u64) -> Call {
@@ -144,7 +144,7 @@ mod tests {
     #[test]
     fn only_the_first_booking_of_a_number_counts() {
         let mut tally = one_sale();
-        let other = asked(3, NO_CARD, &[(1181, 500), (1185, 1010)]);
+        let other = asked(3, &[], &[(1181, 500), (1185, 1010)]);
         tally.note(&sale(1), &newer_bundle());
         tally.note(&Call::sale(1, 1, &other), &newer_bundle());
         assert_eq!(told(&tally), [2274, 1500, 3774]);
@@ -157,7 +157,7 @@ mod tests {
     #[test]
     fn what_is_refused_counts_for_nothing() {
         let mut tally = one_sale();
-        let unserved = asked(3, NO_CARD, &[(1185, 1010), (1182, 500), (0, 0)]);
+        let unserved = asked(3, &[], &[(1185, 1010), (1182, 500), (0, 0)]);
         tally.note(&Call::sale(1, 2, &unserved), &bundle());
         tally.note(&sale(2), b"XX");
         tally.note(&sale(0), &bundle());

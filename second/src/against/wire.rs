@@ -2,7 +2,7 @@
 
 use std::io::{self, Read};
 
-use crate::question::{Leg, Question, LEG_SLOTS};
+use crate::question::{Leg, Question, CARD_SLOTS, LEG_SLOTS};
 
 #[derive(Clone, Copy, Debug, PartialEq, Eq, PartialOrd, Ord)]
 pub enum Name {
@@ -103,19 +103,22 @@ fn narrowed(question: &Question) -> Question {
     question_of(&numbers_of(question))
 }
 
-const QUESTION_NUMBERS: usize = 5 + 2 * LEG_SLOTS;
+/// Places of a question's numbers.
+const CARDS: usize = 3;
+const LEG_COUNT: usize = CARDS + CARD_SLOTS;
+const LEGS: usize = LEG_COUNT + 1;
+const QUESTION_NUMBERS: usize = LEGS + 2 * LEG_SLOTS;
 
 fn numbers_of(question: &Question) -> [u32; QUESTION_NUMBERS] {
     let mut numbers = [0; QUESTION_NUMBERS];
-    let head = [
-        question.offer,
-        question.day,
-        question.persons,
-        question.card,
-        question.leg_count,
-    ];
+    let head = [question.offer, question.day, question.persons];
     let legs = question.legs.iter().flat_map(|leg| [leg.railway, leg.fare]);
-    for (number, value) in numbers.iter_mut().zip(head.into_iter().chain(legs)) {
+    let values = head
+        .into_iter()
+        .chain(question.cards)
+        .chain([question.leg_count])
+        .chain(legs);
+    for (number, value) in numbers.iter_mut().zip(values) {
         *number = narrow(value);
     }
     numbers
@@ -127,14 +130,14 @@ fn question_of(numbers: &[u32; QUESTION_NUMBERS]) -> Question {
         offer: value(0),
         day: value(1),
         persons: value(2),
-        card: value(3),
-        leg_count: value(4),
+        cards: std::array::from_fn(|slot| value(CARDS + slot)),
+        leg_count: value(LEG_COUNT),
         ..Question::default()
     };
     for slot in 0..LEG_SLOTS {
         question.legs[slot] = Leg {
-            railway: value(5 + 2 * slot),
-            fare: value(6 + 2 * slot),
+            railway: value(LEGS + 2 * slot),
+            fare: value(LEGS + 1 + 2 * slot),
         };
     }
     question
@@ -169,11 +172,15 @@ pub fn encode(call: &Call, lent: &Lent, book_kept: bool) -> Vec<u8> {
         lent.bundle_more,
         lent.book.len() as u64,
         lent.book_more,
-        u64::from(book_kept),
     ] {
         bytes.extend(number.to_le_bytes());
     }
-    let head = [call.name as u32, call.till, call.railway];
+    let head = [
+        call.name as u32,
+        call.till,
+        call.railway,
+        u32::from(book_kept),
+    ];
     for number in head.into_iter().chain(numbers_of(&call.question)) {
         bytes.extend(number.to_le_bytes());
     }
@@ -209,9 +216,9 @@ pub fn decode(input: &mut impl Read) -> io::Result<Request> {
     let sequence = read_u64(input)?;
     let [bundle_length, bundle_more] = [read_u64(input)?, read_u64(input)?];
     let [book_words, book_more] = [read_u64(input)?, read_u64(input)?];
-    let _book_kept = read_u64(input)?;
     let name = read_u32(input)?;
     let [till, railway] = [read_u32(input)?, read_u32(input)?];
+    let _book_kept = read_u32(input)?;
     let mut numbers = [0; QUESTION_NUMBERS];
     for number in &mut numbers {
         *number = read_u32(input)?;

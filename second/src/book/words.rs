@@ -76,7 +76,7 @@ fn entry_of_words(words: &[u32]) -> Option<Entry> {
             offer: number(place::OFFER),
             day: number(place::DAY),
             persons: number(place::PERSONS),
-            card: number(place::CARDS),
+            cards: std::array::from_fn(|slot| number(place::CARDS + slot)),
             leg_count: number(place::LEG_COUNT),
             ..Question::default()
         },
@@ -102,9 +102,11 @@ fn words_of_entry(entry: &Entry) -> Option<[u32; ENTRY_WORDS]> {
     put(place::SEQUENCE, entry.sequence)?;
     put(place::OFFER, question.offer)?;
     put(place::DAY, question.day)?;
-    put(place::CARDS, question.card)?;
     put(place::LEG_COUNT, question.leg_count)?;
     put(place::PERSONS, question.persons)?;
+    for (slot, card) in question.cards.into_iter().enumerate() {
+        put(place::CARDS + slot, card)?;
+    }
     for (leg, asked) in question.legs.iter().enumerate() {
         put(place::railway(leg), asked.railway)?;
         put(place::fare(leg), asked.fare)?;
@@ -171,7 +173,7 @@ mod tests {
     use crate::generate::drafts::{assemble, Draft};
     use crate::generate::random::Random;
     use crate::layout::Table;
-    use crate::question::asked;
+    use crate::question::{asked, CARD_SLOTS};
     use crate::refusal::Refusal;
 
     #[test]
@@ -189,7 +191,7 @@ mod tests {
 
     #[test]
     fn places_end_with_the_entry() {
-        assert_eq!(place::CARDS + 4, place::LEG_COUNT);
+        assert_eq!(place::CARDS + CARD_SLOTS, place::LEG_COUNT);
         assert_eq!(place::CATEGORIES + 12, place::LEGS);
         assert_eq!(place::LEGS + 32, place::PARTS);
         assert_eq!(place::PARTS + 8, place::MARK);
@@ -213,7 +215,7 @@ mod tests {
         let mut book = full_book(&mut random);
         book.entries.truncate(2);
         let words = words_of_book(&book).unwrap();
-        for place in (5..8).chain([9]).chain(11..21).chain([62, 63]) {
+        for place in [9].into_iter().chain(11..21).chain([62, 63]) {
             let mut set = words.clone();
             set[1 + ENTRY_WORDS + place] = 1;
             assert!(!is_sound(&set), "{place}");
@@ -230,7 +232,7 @@ mod tests {
     #[test]
     fn an_unsound_book_refuses_every_call_and_stays() {
         let mut random = Random::from_seed(7);
-        for defect in BookDefect::ALL {
+        for defect in BookDefect::all() {
             let mut words = defect.example(&mut random);
             let before = words.clone();
             let refusal = Refusal::of_call(21);
@@ -259,7 +261,7 @@ mod tests {
         let before = words_of_book(&book).unwrap();
         let mut words = before.clone();
         let bundle = assemble(&[Draft::plain(Table::Co)]);
-        let mut question = asked(3, 999, &[(1185, 500)]);
+        let mut question = asked(3, &[999, 4, 17, 8], &[(1185, 500)]);
         question.legs = [question.legs[0]; LEG_SLOTS];
         let sequence = (1..)
             .find(|&free| book.place_of(2, free).is_none())
@@ -275,6 +277,9 @@ mod tests {
             (start + 2, 42),
             (start + 3, 20240615),
             (start + 4, 999),
+            (start + 5, 4),
+            (start + 6, 17),
+            (start + 7, 8),
             (start + 8, 1),
             (start + 10, 3),
             (start + 21, 1185),

@@ -2,12 +2,13 @@
 
 use std::collections::HashSet;
 
+use super::cards::{cards_with_one_twice, drawn_cards, Slots, PAIRS_OF_SLOTS};
 use super::questions::unaimed_question;
 use super::random::Random;
 use crate::book::words::{empty_book, place, words_of_book, BOOK_WORDS, ENTRY_WORDS};
 use crate::book::{Book, Entry, LARGEST_SEQUENCE, LARGEST_TILL, MOST_ENTRIES};
-use crate::fare::LARGEST_PART;
-use crate::question::{Leg, LEG_SLOTS};
+use crate::fare::largest_part;
+use crate::question::{Cards, Leg, CARD_SLOTS, LEG_SLOTS};
 
 pub fn sound_book(random: &mut Random) -> Book {
     let count = match random.below(5) {
@@ -45,9 +46,28 @@ pub fn sound_entry(random: &mut Random) -> Entry {
         ..Entry::default()
     };
     for slot in 0..question.used_slots() {
-        entry.parts[slot] = random.between_with_ends(0, LARGEST_PART);
+        entry.parts[slot] = random.between_with_ends(0, entry.largest_part());
     }
     entry
+}
+
+/// Sound, with an entry of so many cards whose parts are all as large as they may be.
+pub fn book_at_the_bound(random: &mut Random, cards: usize) -> Book {
+    let mut book = sound_book_of(random, 12);
+    let entry = &mut book.entries[random.place_in(12)];
+    give_cards(entry, drawn_cards(random, cards));
+    let used = entry.question.used_slots();
+    entry.parts[..used].fill(largest_part(cards));
+    book
+}
+
+/// The parts are held to the bound of these cards.
+fn give_cards(entry: &mut Entry, cards: Cards) {
+    entry.question.cards = cards;
+    let largest = entry.largest_part();
+    for part in &mut entry.parts {
+        *part = largest.min(*part);
+    }
 }
 
 pub fn sale_number(random: &mut Random) -> (u64, u64) {
@@ -77,8 +97,9 @@ pub enum BookDefect {
     OfferZero,
     OfferTooLarge,
     NoSuchDay,
-    CardTooLarge,
-    FurtherCard,
+    CardTooLarge(usize),
+    CardTwice(usize, usize),
+    CardBehindAGap(Slots),
     NoLegs,
     NineLegs,
     OneLegMore,
@@ -92,6 +113,7 @@ pub enum BookDefect {
     PlainFareTooLarge,
     StationSet,
     PartTooLarge,
+    PartOverBoundOfCards(usize),
     UnusedLegSet,
     UnusedPartSet,
     MarkUnknown,
@@ -102,7 +124,7 @@ pub enum BookDefect {
 }
 
 impl BookDefect {
-    pub const ALL: [BookDefect; 37] = [
+    const OF_ONE_KIND: [BookDefect; 35] = [
         BookDefect::NoWords,
         BookDefect::OneWordShort,
         BookDefect::OneWordLong,
@@ -118,8 +140,6 @@ impl BookDefect {
         BookDefect::OfferZero,
         BookDefect::OfferTooLarge,
         BookDefect::NoSuchDay,
-        BookDefect::CardTooLarge,
-        BookDefect::FurtherCard,
         BookDefect::NoLegs,
         BookDefect::NineLegs,
         BookDefect::OneLegMore,
@@ -142,16 +162,54 @@ impl BookDefect {
         BookDefect::LastWordSet,
     ];
 
+    pub fn all() -> Vec<BookDefect> {
+        let mut all = BookDefect::OF_ONE_KIND.to_vec();
+        all.extend((0..CARD_SLOTS).map(BookDefect::CardTooLarge));
+        all.extend(PAIRS_OF_SLOTS.map(|(one, other)| BookDefect::CardTwice(one, other)));
+        all.extend(
+            Slots::with_a_gap()
+                .into_iter()
+                .map(BookDefect::CardBehindAGap),
+        );
+        all.extend((0..=CARD_SLOTS).map(BookDefect::PartOverBoundOfCards));
+        all
+    }
+
     /// The words of a book with this defect and no other.
     pub fn example(self, random: &mut Random) -> Vec<u32> {
         let count = random.between(2, 255) as usize;
         let mut book = sound_book_of(random, count);
         let victim = random.place_in(count);
-        shorten_question(random, &mut book.entries[victim]);
+        let entry = &mut book.entries[victim];
+        shorten_question(random, entry);
+        if self.damage_cards(random, entry) {
+            return words_of_book(&book).expect("all values fit their words");
+        }
         let mut words = words_of_book(&book).expect("a sound book fits its words");
         let start = 1 + victim * ENTRY_WORDS;
         self.damage(random, &mut words, count, start);
         words
+    }
+
+    /// Whether this is a defect of the cards, or of what they bound.
+    fn damage_cards(self, random: &mut Random, entry: &mut Entry) -> bool {
+        match self {
+            BookDefect::CardTooLarge(slot) => {
+                let count = random.between(slot as u64 + 1, CARD_SLOTS as u64);
+                give_cards(entry, drawn_cards(random, count as usize));
+                entry.question.cards[slot] = random.pick(&[1000, 1000, u64::from(u32::MAX)]);
+            }
+            BookDefect::CardTwice(one, other) => {
+                give_cards(entry, cards_with_one_twice(random, (one, other)));
+            }
+            BookDefect::CardBehindAGap(slots) => give_cards(entry, slots.filled(random)),
+            BookDefect::PartOverBoundOfCards(count) => {
+                give_cards(entry, drawn_cards(random, count));
+                entry.parts[random.place_in(entry.question.used_slots())] = largest_part(count) + 1;
+            }
+            _ => return false,
+        }
+        true
     }
 
     fn damage(self, random: &mut Random, words: &mut Vec<u32>, count: usize, start: usize) {
@@ -183,11 +241,6 @@ impl BookDefect {
                 place::DAY,
                 &[0, 15_821_231, 20_230_229, 20_241_301, 100_000_101],
             ),
-            BookDefect::CardTooLarge => set(place::CARDS, &[1000, u32::MAX]),
-            BookDefect::FurtherCard => {
-                let further = place::CARDS + 1 + random.place_in(3);
-                words[start + further] = random.pick(&[1, 7, 999]);
-            }
             BookDefect::NoLegs => set(place::LEG_COUNT, &[0]),
             BookDefect::NineLegs => set(place::LEG_COUNT, &[9, 256, u32::MAX]),
             BookDefect::OneLegMore => words[start + place::LEG_COUNT] += 1,
@@ -207,7 +260,7 @@ impl BookDefect {
                 words[start + station] = random.pick(&[1, u32::MAX]);
             }
             BookDefect::PartTooLarge => {
-                set(place::PARTS + used_leg, &[99_197_506, u32::MAX]);
+                set(place::PARTS + used_leg, &[99_493_912, u32::MAX]);
             }
             BookDefect::UnusedLegSet => {
                 let word = random.pick(&[place::railway(unused_leg), place::fare(unused_leg)]);
@@ -222,6 +275,10 @@ impl BookDefect {
                 words[first + random.place_in(BOOK_WORDS - first)] = 1;
             }
             BookDefect::LastWordSet => words[BOOK_WORDS - 1] = 1,
+            BookDefect::CardTooLarge(_)
+            | BookDefect::CardTwice(..)
+            | BookDefect::CardBehindAGap(_)
+            | BookDefect::PartOverBoundOfCards(_) => (),
         }
     }
 }
@@ -249,7 +306,7 @@ fn repeat_a_number(random: &mut Random, words: &mut [u32], count: usize) {
 }
 
 pub fn malformed_book(random: &mut Random) -> Vec<u32> {
-    random.pick(&BookDefect::ALL).example(random)
+    random.pick(&BookDefect::all()).example(random)
 }
 
 #[cfg(test)]
@@ -268,9 +325,23 @@ mod tests {
     }
 
     #[test]
+    fn books_at_the_bound_are_sound_and_full_to_it() {
+        let mut random = Random::from_seed(53);
+        let bounds = [99_197_505, 99_197_505, 99_296_307, 99_395_109, 99_493_911];
+        for (cards, bound) in bounds.into_iter().enumerate() {
+            let book = book_at_the_bound(&mut random, cards);
+            assert!(is_sound(&words_of_book(&book).unwrap()));
+            let is_full = |entry: &Entry| {
+                entry.question.given_cards().len() == cards && entry.parts[0] == bound
+            };
+            assert!(book.entries.iter().any(is_full), "{cards}");
+        }
+    }
+
+    #[test]
     fn each_defect_makes_a_book_unsound() {
         let mut random = Random::from_seed(52);
-        for defect in BookDefect::ALL {
+        for defect in BookDefect::all() {
             for _ in 0..20 {
                 assert!(!is_sound(&defect.example(&mut random)), "{defect:?}");
             }

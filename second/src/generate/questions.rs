@@ -1,18 +1,27 @@
 //! Renders the first paragraphs of "Pricing" as questions in and out of their limits.
 
+use super::cards::{cards_with_a_gap, cards_with_one_twice, drawn_cards, PAIRS_OF_SLOTS};
 use super::random::Random;
-use super::valid::drawn_day;
+use super::valid::{distinct, drawn_day};
 use crate::bundle::{readable_records, Record};
 use crate::calendar;
 use crate::layout::{ar, co, Table};
-use crate::question::{Leg, Question, LEG_SLOTS};
+use crate::question::{cards_of, Cards, Leg, Question, CARD_SLOTS, LEG_SLOTS};
 
 /// Mostly within its limits and near to what the bundle can price.
 pub fn question(random: &mut Random, bundle: &[u8]) -> Question {
-    if random.one_in(6) {
-        question_out_of_limits(random, bundle)
-    } else {
-        question_in_limits(random, bundle)
+    match random.below(14) {
+        0 | 1 => question_out_of_limits(random, bundle),
+        2 => question_with_a_card_twice(random, bundle),
+        _ => question_in_limits(random, bundle),
+    }
+}
+
+pub fn question_with_a_card_twice(random: &mut Random, bundle: &[u8]) -> Question {
+    let slots = random.pick(&PAIRS_OF_SLOTS);
+    Question {
+        cards: cards_with_one_twice(random, slots),
+        ..question_in_limits(random, bundle)
     }
 }
 
@@ -76,13 +85,16 @@ impl<'a> Shelf<'a> {
         }
     }
 
+    fn drawn_cards(&self, random: &mut Random) -> Cards {
+        let count = random.pick(&[0, 1, 1, 2, 2, 3, 4, 4]);
+        cards_of(&distinct(random, count, |random| self.drawn_card(random)))
+    }
+
     fn drawn_card(&self, random: &mut Random) -> u64 {
-        match random.below(6) {
-            0 => 0,
-            1 => random.between_with_ends(0, 999),
-            _ if self.additional.is_empty() => random.between(0, 999),
-            _ => known(&random.pick(&self.additional), ar::CODE).min(999),
+        if self.additional.is_empty() || random.one_in(8) {
+            return random.between_with_ends(1, 999);
         }
+        known(&random.pick(&self.additional), ar::CODE).clamp(1, 999)
     }
 }
 
@@ -91,11 +103,12 @@ fn known(record: &Record, field: u8) -> u64 {
 }
 
 pub fn unaimed_question(random: &mut Random) -> Question {
+    let count = random.place_in(CARD_SLOTS + 1);
     let mut question = Question {
         offer: random.between_with_ends(1, 99_999),
         day: drawn_day(random, calendar::FIRST_DAY, calendar::LAST_DAY),
         persons: random.between_with_ends(1, 99),
-        card: random.between_with_ends(0, 999),
+        cards: drawn_cards(random, count),
         leg_count: random.between_with_ends(1, 8),
         ..Question::default()
     };
@@ -112,7 +125,7 @@ pub fn unaimed_question(random: &mut Random) -> Question {
 fn aimed_question(random: &mut Random, shelf: &Shelf) -> Question {
     let mut question = Question {
         offer: shelf.offer.clamp(1, 99_999),
-        card: shelf.drawn_card(random),
+        cards: shelf.drawn_cards(random),
         leg_count: random.pick(&[1, 1, 1, 2, 2, 3, 4, 7, 8]),
         ..Question::default()
     };
@@ -144,6 +157,19 @@ pub fn with_legs(random: &mut Random, first: &Question, count: usize) -> Questio
     Question {
         leg_count: count as u64,
         legs,
+        ..*first
+    }
+}
+
+/// Of so many cards, in any order: those given, as far as they go, and others.
+pub fn with_cards(random: &mut Random, first: &Question, count: usize) -> Question {
+    let mut cards = first.given_cards();
+    let further = distinct(random, CARD_SLOTS as u64, |random| random.between(1, 999));
+    cards.extend(further.iter().filter(|card| !first.cards.contains(card)));
+    cards.truncate(count);
+    random.shuffle(&mut cards);
+    Question {
+        cards: cards_of(&cards),
         ..*first
     }
 }
@@ -242,7 +268,7 @@ pub fn question_out_of_limits(random: &mut Random, bundle: &[u8]) -> Question {
 pub fn break_a_limit(random: &mut Random, question: &mut Question) {
     let wide = random.pick(&[1 << 16, 1 << 32, 1 << 48]);
     let slot = random.place_in(question.used_slots().max(1));
-    match random.below(7) {
+    match random.below(8) {
         0 => question.offer = random.pick(&[0, 100_000, u64::MAX, question.offer | (1 << 32)]),
         1 => {
             let days = [
@@ -260,9 +286,14 @@ pub fn break_a_limit(random: &mut Random, question: &mut Question) {
             question.day = random.pick(&days);
         }
         2 => question.persons = random.pick(&[0, 100, 256, u64::MAX, question.persons | wide]),
-        3 => question.card = random.pick(&[1000, 65_535, u64::MAX, question.card | wide]),
+        3 => {
+            let slot = random.place_in(CARD_SLOTS.min(question.given_cards().len() + 1));
+            let card = question.cards[slot];
+            question.cards[slot] = random.pick(&[1000, 65_535, u64::MAX, card | wide]);
+        }
         4 => question.leg_count = random.pick(&[0, 9, 16, u64::MAX, question.leg_count | wide]),
-        5 => question.legs[slot].railway = random.pick(&[0, 10_000, u64::MAX, 1185 | wide]),
+        5 => question.cards = cards_with_a_gap(random),
+        6 => question.legs[slot].railway = random.pick(&[0, 10_000, u64::MAX, 1185 | wide]),
         _ => question.legs[slot].fare = random.pick(&[1_000_000, u64::MAX, 1010 | (1 << 32)]),
     }
 }
@@ -282,6 +313,20 @@ mod tests {
             let bundle = valid_bundle(&mut random);
             assert!(question_in_limits(&mut random, &bundle).is_within_limits());
             assert!(!question_out_of_limits(&mut random, &bundle).is_within_limits());
+            let twice = question_with_a_card_twice(&mut random, &bundle);
+            assert!(twice.is_within_limits() && twice.gives_a_card_twice());
+        }
+    }
+
+    #[test]
+    fn as_many_cards_as_asked() {
+        let mut random = Random::from_seed(45);
+        for turn in 0..200 {
+            let first = unaimed_question(&mut random);
+            let count = turn % (CARD_SLOTS + 1);
+            let other = with_cards(&mut random, &first, count);
+            assert_eq!(other.given_cards().len(), count);
+            assert!(other.is_within_limits() && !other.gives_a_card_twice());
         }
     }
 
@@ -327,6 +372,7 @@ mod tests {
         let expected: Vec<(u8, u64)> = [(0, 0), (11, 0), (12, 0), (13, 0), (14, 0)]
             .into_iter()
             .chain([27, 31, 32, 34, 35].map(|field| (15, field)))
+            .chain([(17, 0)])
             .collect();
         assert_eq!(reached.keys().copied().collect::<Vec<_>>(), expected);
         assert!(reached[&(0, 0)] > 800, "{reached:?}");

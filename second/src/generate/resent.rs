@@ -2,14 +2,15 @@
 
 use std::fmt;
 
+use super::cards::further_card;
 use super::questions::break_a_limit;
 use super::random::Random;
 use super::valid::drawn_day;
 use crate::book::{LARGEST_SEQUENCE, LARGEST_TILL};
 use crate::calendar;
 use crate::question::{
-    Leg, Question, LARGEST_CARD, LARGEST_OFFER, LARGEST_PLAIN_FARE, LARGEST_RAILWAY, LEG_SLOTS,
-    MOST_PERSONS, NO_CARD,
+    cards_of, Leg, Question, CARD_SLOTS, LARGEST_CARD, LARGEST_OFFER, LARGEST_PLAIN_FARE,
+    LARGEST_RAILWAY, LEG_SLOTS, MOST_PERSONS,
 };
 
 /// Of a leg that may break its limits.
@@ -31,7 +32,12 @@ pub enum Change {
     Offer,
     Day,
     Persons,
-    Card,
+    Card(usize),
+    CardDropped,
+    CardAdded,
+    CardsReordered,
+    CardTwice,
+    CardBehindAGap,
     LegDropped,
     LegAdded,
     LegsReordered,
@@ -60,16 +66,22 @@ impl Change {
             Change::Offer,
             Change::Day,
             Change::Persons,
-            Change::Card,
+            Change::CardDropped,
+            Change::CardAdded,
+            Change::CardsReordered,
+            Change::CardTwice,
+            Change::CardBehindAGap,
             Change::LegDropped,
             Change::LegAdded,
             Change::LegsReordered,
             Change::LimitBroken,
         ];
+        let cards = (0..CARD_SLOTS).map(Change::Card);
         let railways = (0..LEG_SLOTS).map(Change::Railway);
         let fares = (0..LEG_SLOTS).map(Change::Fare);
         of_all_legs
             .into_iter()
+            .chain(cards)
             .chain(railways)
             .chain(fares)
             .collect()
@@ -102,9 +114,36 @@ impl Change {
             Change::Persons => {
                 question.persons = another(random, question.persons, 1, MOST_PERSONS)
             }
-            Change::Card => question.card = another(random, question.card, NO_CARD, LARGEST_CARD),
             Change::LimitBroken => break_a_limit(random, question),
+            Change::CardBehindAGap => move_behind_a_gap(question)?,
+            Change::Card(_)
+            | Change::CardDropped
+            | Change::CardAdded
+            | Change::CardsReordered
+            | Change::CardTwice => {
+                let mut cards = question.given_cards();
+                self.apply_to_cards(random, &mut cards)?;
+                question.cards = cards_of(&cards);
+            }
             _ => return self.apply_to_legs(random, question),
+        }
+        Some(())
+    }
+
+    fn apply_to_cards(self, random: &mut Random, cards: &mut Vec<u64>) -> Option<()> {
+        match self {
+            Change::Card(slot) => change_card(random, cards, slot)?,
+            Change::CardDropped => drop_card(random, cards)?,
+            Change::CardAdded => {
+                let card = further_card(random, cards);
+                insert_card(random, cards, card)?;
+            }
+            Change::CardsReordered => reorder(random, cards)?,
+            Change::CardTwice => {
+                let card = *cards.first()?;
+                insert_card(random, cards, card)?;
+            }
+            _ => (),
         }
         Some(())
     }
@@ -156,7 +195,12 @@ impl fmt::Display for Change {
             Change::Offer => "offer",
             Change::Day => "day",
             Change::Persons => "persons",
-            Change::Card => "card",
+            Change::Card(slot) => return write!(out, "card in slot {slot}"),
+            Change::CardDropped => "card dropped",
+            Change::CardAdded => "card added",
+            Change::CardsReordered => "cards reordered",
+            Change::CardTwice => "card twice",
+            Change::CardBehindAGap => "card behind a gap",
             Change::LegDropped => "leg dropped",
             Change::LegAdded => "leg added",
             Change::LegsReordered => "legs reordered",
@@ -196,6 +240,41 @@ fn another_day(random: &mut Random, day: u64) -> u64 {
     }
 }
 
+fn change_card(random: &mut Random, cards: &mut [u64], slot: usize) -> Option<()> {
+    let others = cards.to_vec();
+    let card = cards.get_mut(slot)?;
+    while others.contains(card) {
+        *card = another(random, *card, 1, LARGEST_CARD);
+    }
+    Some(())
+}
+
+fn drop_card(random: &mut Random, cards: &mut Vec<u64>) -> Option<()> {
+    if cards.is_empty() {
+        return None;
+    }
+    cards.remove(random.place_in(cards.len()));
+    Some(())
+}
+
+fn insert_card(random: &mut Random, cards: &mut Vec<u64>, card: u64) -> Option<()> {
+    if cards.len() == CARD_SLOTS {
+        return None;
+    }
+    cards.insert(random.place_in(cards.len() + 1), card);
+    Some(())
+}
+
+/// The last of the cards moves one slot on.
+fn move_behind_a_gap(question: &mut Question) -> Option<()> {
+    let count = question.given_cards().len();
+    if count == 0 || count == CARD_SLOTS {
+        return None;
+    }
+    question.cards.swap(count - 1, count);
+    Some(())
+}
+
 fn used_legs(question: &mut Question) -> &mut [Leg] {
     let used = question.used_slots();
     &mut question.legs[..used]
@@ -232,16 +311,16 @@ fn add_leg(random: &mut Random, question: &mut Question) -> Option<()> {
     Some(())
 }
 
-fn reorder(random: &mut Random, legs: &mut [Leg]) -> Option<()> {
-    let before = legs.to_vec();
+fn reorder<T: Copy + PartialEq>(random: &mut Random, items: &mut [T]) -> Option<()> {
+    let before = items.to_vec();
     if before.windows(2).all(|pair| pair[0] == pair[1]) {
         return None;
     }
-    while legs == before {
+    while items == before {
         if random.one_in(2) {
-            random.shuffle(legs);
+            random.shuffle(items);
         } else {
-            legs.swap(random.place_in(before.len()), random.place_in(before.len()));
+            items.swap(random.place_in(before.len()), random.place_in(before.len()));
         }
     }
     Some(())
@@ -302,10 +381,12 @@ mod tests {
                 asked.offer,
                 asked.day,
                 asked.persons,
-                asked.card,
                 asked.leg_count,
             ];
-            head.into_iter().chain(legs).collect::<Vec<u64>>()
+            head.into_iter()
+                .chain(asked.cards)
+                .chain(legs)
+                .collect::<Vec<u64>>()
         };
         let pairs = values(first).into_iter().zip(values(again));
         pairs.filter(|(old, new)| old != new).count()
@@ -316,8 +397,10 @@ mod tests {
         each(&Change::of_question(), |change, first, again| {
             assert_eq!(number(first), number(again), "{change}");
             assert!(!first.question.is_same_as(&again.question), "{change}");
-            let is_within = again.question.is_within_limits();
-            assert!(change != Change::LimitBroken || !is_within);
+            let leaves = matches!(change, Change::LimitBroken | Change::CardBehindAGap);
+            assert!(!leaves || !again.question.is_within_limits(), "{change}");
+            let is_twice = again.question.gives_a_card_twice();
+            assert!(leaves || is_twice == (change == Change::CardTwice));
         });
     }
 
@@ -342,7 +425,17 @@ mod tests {
     #[test]
     fn one_value_at_a_time() {
         let mut changes = Change::of_question();
-        changes.retain(|change| !matches!(change, Change::LegAdded | Change::LegsReordered));
+        let of_several = [
+            Change::LegAdded,
+            Change::LegsReordered,
+            Change::LimitBroken,
+            Change::CardDropped,
+            Change::CardAdded,
+            Change::CardsReordered,
+            Change::CardTwice,
+            Change::CardBehindAGap,
+        ];
+        changes.retain(|change| !of_several.contains(change));
         each(&changes, |change, first, again| {
             assert_eq!(changed_values(first, again), 1, "{change}");
         });
@@ -359,6 +452,36 @@ mod tests {
             assert_eq!(first.question.leg_count, again.question.leg_count);
             assert_eq!(sorted(first), sorted(again));
         });
+    }
+
+    #[test]
+    fn reordered_cards_are_the_same_cards() {
+        each(&[Change::CardsReordered], |_, first, again| {
+            let sorted = |sent: &Sent| {
+                let mut cards = sent.question.cards;
+                cards.sort();
+                cards
+            };
+            assert_eq!(sorted(first), sorted(again));
+        });
+    }
+
+    #[test]
+    fn no_card_and_four_cards_have_no_room_for_some_changes() {
+        let mut random = Random::from_seed(83);
+        let mut sale = drawn_sale(&mut random);
+        let mut has_room = |cards: &[u64], change: Change| {
+            sale.question.cards = cards_of(cards);
+            change.applied(&mut random, &sale).is_some()
+        };
+        let four = [5, 6, 7, 8];
+        for change in [Change::CardAdded, Change::CardTwice, Change::CardBehindAGap] {
+            assert!(!has_room(&four, change) && has_room(&four[..3], change));
+        }
+        for change in [Change::CardDropped, Change::CardTwice, Change::Card(0)] {
+            assert!(!has_room(&[], change) && has_room(&[5], change));
+        }
+        assert!(!has_room(&[5], Change::CardsReordered) && has_room(&four, Change::Card(3)));
     }
 
     #[test]

@@ -26,6 +26,9 @@ pub struct Habits {
     periods_scatter: bool,
     persons_narrow_one_in: u64,
     unread_flag_one_in: u64,
+    /// What field 6 of AR is drawn from.
+    cumulative: &'static [u8],
+    ratings: (u64, u64),
 }
 
 impl Habits {
@@ -35,6 +38,8 @@ impl Habits {
             periods_scatter: random.one_in(5),
             persons_narrow_one_in: random.pick(&[1, 4, 20]),
             unread_flag_one_in: random.pick(&[4, 40, 400, 400]),
+            cumulative: random.pick(&[b"Y", b"YN", b"YYYN", b"YNNN"]),
+            ratings: random.pick(&[(1, 999), (1, 999), (500, 502), (7, 7), (999, 999)]),
         }
     }
 
@@ -51,17 +56,19 @@ struct World {
     offers: Vec<u64>,
     railways: Vec<u64>,
     codes: Vec<u64>,
+    additional_lacks_one_in: u64,
 }
 
 impl World {
     fn drawn(random: &mut Random) -> World {
         let offers = random.pick(&[0, 1, 1, 2, 2, 3, 4]);
-        let codes = random.pick(&[0, 1, 2, 2, 3, 4]);
+        let codes = random.pick(&[0, 1, 2, 3, 4, 5]);
         World {
             habits: Habits::drawn(random),
             offers: distinct(random, offers, |random| random.between_with_ends(1, 99_999)),
             railways: drawn_railways(random),
             codes: distinct(random, codes, |random| random.between_with_ends(1, 999)),
+            additional_lacks_one_in: random.pick(&[2, 2, 8]),
         }
     }
 
@@ -81,7 +88,7 @@ impl World {
                 drafts.push(self.record(random, Table::Co, &key));
             }
             for &code in &self.codes {
-                if random.one_in(2) {
+                if !random.one_in(self.additional_lacks_one_in) {
                     let key = [(ar::OFFER, offer), (ar::RAILWAY, railway), (ar::CODE, code)];
                     drafts.push(self.record(random, Table::Ar, &key));
                 }
@@ -112,7 +119,7 @@ fn drawn_railways(random: &mut Random) -> Vec<u64> {
     })
 }
 
-fn distinct(random: &mut Random, count: u64, draw: impl Fn(&mut Random) -> u64) -> Vec<u64> {
+pub fn distinct(random: &mut Random, count: u64, draw: impl Fn(&mut Random) -> u64) -> Vec<u64> {
     let mut numbers = Vec::new();
     while (numbers.len() as u64) < count {
         let number = draw(random);
@@ -178,7 +185,16 @@ pub fn drawn_record(random: &mut Random, table: Table, habits: &Habits) -> Draft
         draft.write(row.field, &value);
     }
     draft.write_number(TRANSFEROR, habits.transferor);
+    if table == Table::Ar {
+        write_card_habits(random, &mut draft, habits);
+    }
     draft
+}
+
+fn write_card_habits(random: &mut Random, draft: &mut Draft, habits: &Habits) {
+    let (least, most) = habits.ratings;
+    draft.write_number(ar::RATING, random.between_with_ends(least, most));
+    draft.write(ar::CUMULATIVE, &[random.pick(habits.cumulative)]);
 }
 
 fn drawn_number(random: &mut Random, row: &Row, least: u64) -> Vec<u8> {
