@@ -30,7 +30,8 @@ pub struct Outcome {
     pub calls: u64,
 }
 
-pub fn run(seed: u64, count: u64, folder: &Path, driver: &[String]) -> io::Result<Outcome> {
+/// Without a driver the second program stands in for the library: then only its books are held, to their histories.
+pub fn run(seed: u64, count: u64, folder: &Path, driver: Option<&[String]>) -> io::Result<Outcome> {
     let mut bench = Bench::new(seed, folder, driver)?;
     let cases = Cases::of_seed(seed);
     for index in 0..count {
@@ -38,7 +39,9 @@ pub fn run(seed: u64, count: u64, folder: &Path, driver: &[String]) -> io::Resul
         cases.run(&mut bench, index)?;
         bench.end_case();
     }
-    bench.driver.end()?;
+    if let Some(driver) = bench.driver.take() {
+        driver.end()?;
+    }
     let gaps = bench.coverage.gaps();
     let mut failed = bench.failed;
     if count >= FULL_RUN && !gaps.is_empty() {
@@ -57,7 +60,7 @@ pub fn run(seed: u64, count: u64, folder: &Path, driver: &[String]) -> io::Resul
 pub fn replay(file: &Path, driver: &[String]) -> io::Result<(String, bool)> {
     let request = wire::decode(&mut &fs::read(file)?[..])?;
     let mut driver = Driver::start(driver)?;
-    let compared = compare(&mut driver, &request.call, &request.lent())?;
+    let compared = compare(Some(&mut driver), &request.call, &request.lent())?;
     driver.end()?;
     let told = saved::text(&request.call, &request.lent(), &compared);
     Ok((told, compared.difference.is_none()))
@@ -75,6 +78,20 @@ pub struct Compared {
 type Due = (&'static str, u64);
 
 impl Compared {
+    fn of_second_alone(second: Answer, book: Vec<u32>) -> Compared {
+        let reply = Reply {
+            finding: 0,
+            answer: second,
+            changes: Vec::new(),
+        };
+        Compared {
+            library: Ok(reply),
+            second,
+            book,
+            difference: None,
+        }
+    }
+
     /// What the library tells, unless it refuses or ends.
     fn amount(&self) -> Option<u64> {
         let answer = self.library.as_ref().ok()?.answer;
@@ -95,9 +112,12 @@ impl Compared {
     }
 }
 
-fn compare(driver: &mut Driver, call: &Call, lent: &Lent) -> io::Result<Compared> {
-    let library = driver.ask(call, lent)?;
+fn compare(driver: Option<&mut Driver>, call: &Call, lent: &Lent) -> io::Result<Compared> {
     let (second, book) = second::answer(call, lent);
+    let Some(driver) = driver else {
+        return Ok(Compared::of_second_alone(second, book));
+    };
+    let library = driver.ask(call, lent)?;
     let difference = difference(lent, &library, &second, &book);
     Ok(Compared {
         library,
@@ -135,7 +155,7 @@ fn difference(
 struct Bench {
     seed: u64,
     folder: PathBuf,
-    driver: Driver,
+    driver: Option<Driver>,
     coverage: Coverage,
     case: u64,
     case_failed: bool,
@@ -146,12 +166,11 @@ struct Bench {
 }
 
 impl Bench {
-    fn new(seed: u64, folder: &Path, driver: &[String]) -> io::Result<Bench> {
-        fs::create_dir_all(folder)?;
+    fn new(seed: u64, folder: &Path, driver: Option<&[String]>) -> io::Result<Bench> {
         Ok(Bench {
             seed,
             folder: folder.to_path_buf(),
-            driver: Driver::start(driver)?,
+            driver: driver.map(Driver::start).transpose()?,
             coverage: Coverage::default(),
             case: 0,
             case_failed: false,
@@ -182,7 +201,7 @@ impl Bench {
 
     /// Holds the library to other reckonings as well.
     fn ask_held(&mut self, call: &Call, lent: &Lent, dues: &[Due]) -> io::Result<Compared> {
-        let mut compared = compare(&mut self.driver, call, lent)?;
+        let mut compared = compare(self.driver.as_mut(), call, lent)?;
         compared.hold(dues);
         if compared.difference.is_some() {
             self.save(call, lent, &compared)?;
@@ -198,6 +217,7 @@ impl Bench {
         if self.differences > MOST_SAVED {
             return Ok(());
         }
+        fs::create_dir_all(&self.folder)?;
         let name = format!("{}-{}-{}", self.seed, self.case, self.differences);
         let path = saved::save(&self.folder.join(name), call, lent, compared)?;
         let difference = compared.difference.as_deref().unwrap_or("no difference");
@@ -220,17 +240,7 @@ mod tests {
             value,
             ..Answer::default()
         };
-        let reply = Reply {
-            finding: 0,
-            answer,
-            changes: Vec::new(),
-        };
-        Compared {
-            library: Ok(reply),
-            second: answer,
-            book: Vec::new(),
-            difference: None,
-        }
+        Compared::of_second_alone(answer, Vec::new())
     }
 
     #[test]
@@ -249,5 +259,13 @@ mod tests {
         let mut compared = told(21, 0);
         compared.hold(&[("one", 0)]);
         assert_eq!(compared.difference.as_deref(), Some("one comes to 0"));
+    }
+
+    #[test]
+    fn the_second_program_alone_keeps_to_the_histories() {
+        let folder = std::env::temp_dir().join("second-alone");
+        let outcome = run(1, 60, &folder, None).unwrap();
+        assert_eq!((outcome.passed, outcome.failed), (60, 0));
+        assert!(outcome.calls > 2000);
     }
 }

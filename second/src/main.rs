@@ -11,7 +11,7 @@ use second::program::{library_line, line, program_line};
 use second::verdict::verdict;
 
 const USAGE: &str = "usage: second verdict | second program | second bundles SEED COUNT DIR
-  | second against SEED COUNT DIR -- DRIVER.. | second replay FILE -- DRIVER..";
+  | second against SEED COUNT DIR -- DRIVER.. | second alone SEED COUNT DIR | second replay FILE -- DRIVER..";
 
 fn main() -> ExitCode {
     let arguments: Vec<String> = std::env::args().skip(1).collect();
@@ -24,7 +24,11 @@ fn main() -> ExitCode {
             _ => fail(USAGE),
         },
         ["against", seed, count, folder, "--", ..] => match (seed.parse(), count.parse()) {
-            (Ok(seed), Ok(count)) => against(seed, count, Path::new(folder), &arguments[5..]),
+            (Ok(seed), Ok(count)) => against(seed, count, Path::new(folder), Some(&arguments[5..])),
+            _ => fail(USAGE),
+        },
+        ["alone", seed, count, folder] => match (seed.parse(), count.parse()) {
+            (Ok(seed), Ok(count)) => against(seed, count, Path::new(folder), None),
             _ => fail(USAGE),
         },
         ["replay", file, "--", ..] => replay(Path::new(file), &arguments[3..]),
@@ -51,7 +55,7 @@ fn fail(message: &str) -> ExitCode {
     ExitCode::FAILURE
 }
 
-fn against(seed: u64, count: u64, folder: &Path, driver: &[String]) -> ExitCode {
+fn against(seed: u64, count: u64, folder: &Path, driver: Option<&[String]>) -> ExitCode {
     let outcome = match against::run(seed, count, folder, driver) {
         Ok(outcome) => outcome,
         Err(error) => return fail(&error.to_string()),

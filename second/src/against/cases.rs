@@ -15,14 +15,14 @@ use crate::generate::drafts::{assemble, Draft};
 use crate::generate::histories::{any_bundle, drawn_bundles, drawn_step};
 use crate::generate::questions::{question, question_in_limits};
 use crate::generate::random::Random;
-use crate::generate::valid::{sized_bundle_with_memos, valid_bundle};
+use crate::generate::valid::{sized_bundle_with_memos, valid_bundle, valid_bundle_with_cards};
 use crate::layout::{ar, co, re, Table};
 use crate::program::LONGEST_INPUT;
 use crate::question::{
     cards_of, Leg, Question, CARD_SLOTS, LARGEST_PLAIN_FARE, LEG_SLOTS, MOST_PERSONS,
 };
 
-const QUESTIONS_PER_BUNDLE: u64 = 6;
+const QUESTIONS_PER_BUNDLE: u64 = 12;
 const STEPS_PER_BOOK: u64 = 8;
 const BOOKS_PER_KIND: u64 = 4;
 const TILLS: [u64; 5] = [0, 1, 65_535, 65_536, u32::MAX as u64];
@@ -122,10 +122,10 @@ fn sized(random: &mut Random, turn: u64) -> Option<Vec<u8>> {
 }
 
 fn fares(bench: &mut Bench, random: &mut Random) -> io::Result<()> {
-    let bundle = if random.one_in(4) {
-        any_bundle(random)
-    } else {
-        valid_bundle(random)
+    let bundle = match random.below(5) {
+        0 => any_bundle(random),
+        1 | 2 => valid_bundle(random),
+        _ => valid_bundle_with_cards(random),
     };
     for _ in 0..QUESTIONS_PER_BUNDLE {
         let call = Call::fare(&question(random, &bundle));
@@ -252,7 +252,8 @@ fn limits(bench: &mut Bench, random: &mut Random) -> io::Result<()> {
     Ok(())
 }
 
-const COSTLY_CARDS: [u64; CARD_SLOTS] = [7, 8, 9, 10];
+/// In rising rating.
+const COSTLY_CARDS: [u64; CARD_SLOTS] = [10, 8, 9, 7];
 
 /// All records round up by as much as there is.
 fn costliest_offer() -> Vec<u8> {

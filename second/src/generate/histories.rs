@@ -6,7 +6,7 @@ use super::damage::{with_relation_fault, RelationFault};
 use super::questions::question;
 use super::random::Random;
 use super::resent::{changed, Sent};
-use super::valid::valid_bundle;
+use super::valid::{valid_bundle, valid_bundle_with_cards};
 use crate::book::words::{balance, book_of_words, cancel, empty_book, sale, total, words_of_book};
 use crate::book::{Book, Cancel, Sale, Sum};
 use crate::bundle::LONGEST_BUNDLE;
@@ -69,11 +69,11 @@ pub fn history(random: &mut Random, length: usize) -> History {
 
 /// Two good bundles, perhaps empty ones, and one of any kind.
 pub fn drawn_bundles(random: &mut Random) -> Vec<Vec<u8>> {
-    vec![
-        valid_bundle(random),
-        valid_bundle(random),
-        any_bundle(random),
-    ]
+    let first = match random.below(2) {
+        0 => valid_bundle(random),
+        _ => valid_bundle_with_cards(random),
+    };
+    vec![first, valid_bundle(random), any_bundle(random)]
 }
 
 pub fn any_bundle(random: &mut Random) -> Vec<u8> {

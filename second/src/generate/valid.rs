@@ -9,15 +9,15 @@ pub fn valid_bundle(random: &mut Random) -> Vec<u8> {
     assemble(&valid_drafts(random))
 }
 
+/// Of one offer with several cards, most of which apply to a leg.
+pub fn valid_bundle_with_cards(random: &mut Random) -> Vec<u8> {
+    let world = World::drawn_for_cards(random);
+    assemble(&world.drafts(random))
+}
+
 pub fn valid_drafts(random: &mut Random) -> Vec<Draft> {
     let world = World::drawn(random);
-    let mut drafts = world.discount_types(random);
-    for &offer in &world.offers {
-        drafts.extend(world.records_of_offer(random, offer));
-    }
-    raise_served_flags(random, &mut drafts);
-    arrange(random, &mut drafts);
-    drafts
+    world.drafts(random)
 }
 
 /// Traits that the records of one bundle share, so that questions can be met by many of them.
@@ -70,6 +70,33 @@ impl World {
             codes: distinct(random, codes, |random| random.between_with_ends(1, 999)),
             additional_lacks_one_in: random.pick(&[2, 2, 8]),
         }
+    }
+
+    fn drawn_for_cards(random: &mut Random) -> World {
+        let railways = random.between(1, 2);
+        let mut railways = distinct(random, railways, |random| random.between(1, 9999));
+        railways.push(0);
+        World {
+            habits: Habits {
+                persons_narrow_one_in: 20,
+                unread_flag_one_in: 400,
+                ..Habits::drawn(random)
+            },
+            offers: vec![random.between_with_ends(1, 99_999)],
+            railways,
+            codes: distinct(random, 5, |random| random.between_with_ends(1, 999)),
+            additional_lacks_one_in: random.pick(&[2, 8]),
+        }
+    }
+
+    fn drafts(&self, random: &mut Random) -> Vec<Draft> {
+        let mut drafts = self.discount_types(random);
+        for &offer in &self.offers {
+            drafts.extend(self.records_of_offer(random, offer));
+        }
+        raise_served_flags(random, &mut drafts);
+        arrange(random, &mut drafts);
+        drafts
     }
 
     fn discount_types(&self, random: &mut Random) -> Vec<Draft> {
@@ -422,6 +449,8 @@ mod tests {
                 verdict(&assemble(&drafts)),
                 Verdict::Accepted(drafts.len() as u64)
             );
+            let bundle = valid_bundle_with_cards(&mut random);
+            assert!(matches!(verdict(&bundle), Verdict::Accepted(_)));
         }
     }
 
