@@ -126,6 +126,16 @@ mod tests {
     }
 
     #[test]
+    fn a_single_card_is_one_step_whatever_its_field_6_and_rating() {
+        for (rating, byte) in [(1, b'N'), (999, b'+')] {
+            let single = record(7, rating, 30_000, byte, 50);
+            let due = single.reduction.apply(758);
+            assert_eq!(amount(758, &[single]), due);
+            assert_eq!(amount(758, &[alone(single)]), due);
+        }
+    }
+
+    #[test]
     fn at_equal_rating_in_rising_code() {
         for rating in [1, 999] {
             let half_first = [half_up_to_50(5, rating), quarter_down_to_100(7, rating)];

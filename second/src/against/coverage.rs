@@ -42,7 +42,7 @@ const CARD_GAP: &str = "11, card slots";
 const CARD_TWICE: &str = "17, slots";
 const TWICE_BEFORE: &str = "17 before";
 const BEFORE_TWICE: &str = "before 17";
-const AT_THE_BOUND: &str = "parts at bound";
+const AT_THE_BOUND: &str = "at bound, cards";
 const MALFORMED: &str = "malformed book";
 const SETTLED: &str = "settled after";
 const REFUSED: &str = "refused";
@@ -84,7 +84,7 @@ impl Coverage {
     /// A book with parts at the bound of so many cards, and its total.
     pub fn note_at_the_bound(&mut self, cards: usize, total: &Answer) {
         if total.number == 0 {
-            self.meet(AT_THE_BOUND, of_cards(cards));
+            self.meet(AT_THE_BOUND, cards);
         }
     }
 
@@ -289,10 +289,6 @@ fn of_pair((one, other): (usize, usize)) -> String {
     format!("{one} and {other}")
 }
 
-fn of_cards(count: usize) -> String {
-    format!("of {count} cards")
-}
-
 fn outcome_of(answer: &Answer) -> Option<&'static str> {
     match (answer.outcome, answer.cancelled) {
         (outcome::BOOKED, _) => Some(OUTCOMES[0]),
@@ -401,7 +397,6 @@ fn groups_of_pricing() -> Vec<Group> {
 fn groups_of_cards() -> Vec<Group> {
     let counts: Vec<usize> = (0..=CARD_SLOTS).collect();
     let slots: Vec<usize> = (0..CARD_SLOTS).collect();
-    let bounds: Vec<String> = counts.iter().copied().map(of_cards).collect();
     vec![
         group(CARDS_IN_FARE, &counts),
         group(CARDS_IN_SALE, &counts),
@@ -414,7 +409,7 @@ fn groups_of_cards() -> Vec<Group> {
         group(CARD_TWICE, &PAIRS_OF_SLOTS.map(of_pair)),
         group(TWICE_BEFORE, &[12, 13, 14, 15]),
         group(BEFORE_TWICE, &[VERDICT, "11", "23", "24"]),
-        group(AT_THE_BOUND, &bounds),
+        group(AT_THE_BOUND, &counts),
     ]
 }
 

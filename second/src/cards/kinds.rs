@@ -43,14 +43,15 @@ impl Decision {
         has_length && self.chain_is_less_than_each_alone()
     }
 
-    fn least_alone(&self) -> usize {
-        self.alone.iter().filter(|&&a| a == self.least).count()
+    fn times_least_alone(&self) -> usize {
+        let is_least = |amount: &&u64| **amount == self.least;
+        self.alone.iter().filter(is_least).count()
     }
 
     /// The place of the only choice that comes to the least, among several that are applied alone.
     fn decider_of_several(&self) -> Option<usize> {
-        let is_only = self.least_alone() == 1 && self.chain_amount() != Some(self.least);
-        let place = self.alone.iter().position(|&a| a == self.least);
+        let is_only = self.times_least_alone() == 1 && self.chain_amount() != Some(self.least);
+        let place = self.alone.iter().position(|&amount| amount == self.least);
         place.filter(|_| is_only && self.alone.len() > 1)
     }
 
@@ -85,9 +86,9 @@ const KINDS_OF_DECISIONS: [KindOfDecision; 14] = [
     }),
     ("N in the midst", Decision::is_decided_in_the_midst),
     ("Y and N tie", |d| {
-        d.chain_amount() == Some(d.least) && d.least_alone() > 0
+        d.chain_amount() == Some(d.least) && d.times_least_alone() > 0
     }),
-    ("two N tie", |d| d.least_alone() > 1),
+    ("two N tie", |d| d.times_least_alone() > 1),
 ];
 
 type KindOfUse = (&'static str, fn(&CardUse) -> bool);
@@ -115,17 +116,15 @@ pub fn kinds_of(leg: &CardsOnLeg) -> Vec<&'static str> {
 
 /// The kinds of cards that stand on a leg beside another that applies.
 pub fn uses_beside(leg: &CardsOnLeg) -> Vec<&'static str> {
-    let is_beside = |place: usize| {
-        let applies = |other: &usize| matches!(leg.uses[*other], CardUse::Applies(_));
-        (0..leg.uses.len())
-            .filter(|&other| other != place)
-            .any(|other| applies(&other))
+    let applying = leg.applying().len();
+    let is_beside = |used: &&CardUse| {
+        let itself = matches!(used, CardUse::Applies(_));
+        applying > usize::from(itself)
     };
-    let is_met = |kind: &KindOfUse| {
-        let mut places = 0..leg.uses.len();
-        places.any(|place| kind.1(&leg.uses[place]) && is_beside(place))
-    };
-    let met = KINDS_OF_USES.into_iter().filter(is_met);
+    let beside: Vec<&CardUse> = leg.uses.iter().filter(is_beside).collect();
+    let met = KINDS_OF_USES
+        .into_iter()
+        .filter(|(_, is_met)| beside.iter().any(|used| is_met(used)));
     met.map(|(name, _)| name).collect()
 }
 

@@ -182,17 +182,14 @@ impl BookDefect {
         let victim = random.place_in(count);
         let entry = &mut book.entries[victim];
         shorten_question(random, entry);
-        if self.damage_cards(random, entry) {
-            return words_of_book(&book).expect("all values fit their words");
-        }
-        let mut words = words_of_book(&book).expect("a sound book fits its words");
+        self.damage_cards(random, entry);
+        let mut words = words_of_book(&book).expect("all values fit their words");
         let start = 1 + victim * ENTRY_WORDS;
-        self.damage(random, &mut words, count, start);
+        self.damage_words(random, &mut words, count, start);
         words
     }
 
-    /// Whether this is a defect of the cards, or of what they bound.
-    fn damage_cards(self, random: &mut Random, entry: &mut Entry) -> bool {
+    fn damage_cards(self, random: &mut Random, entry: &mut Entry) {
         match self {
             BookDefect::CardTooLarge(slot) => {
                 let count = random.between(slot as u64 + 1, CARD_SLOTS as u64);
@@ -207,12 +204,11 @@ impl BookDefect {
                 give_cards(entry, drawn_cards(random, count));
                 entry.parts[random.place_in(entry.question.used_slots())] = largest_part(count) + 1;
             }
-            _ => return false,
+            _ => (),
         }
-        true
     }
 
-    fn damage(self, random: &mut Random, words: &mut Vec<u32>, count: usize, start: usize) {
+    fn damage_words(self, random: &mut Random, words: &mut Vec<u32>, count: usize, start: usize) {
         let used = words[start + place::LEG_COUNT] as usize;
         let (used_leg, unused_leg) = (
             random.place_in(used),
