@@ -65,7 +65,7 @@ typedef struct {
     uint32_t offer;     /* 1 to 99,999 */
     uint32_t day;       /* YYYYMMDD, a real date of the years 1583 to 9999 */
     uint32_t persons;   /* 1 to 99 */
-    uint32_t cards[4];  /* 1 to 999, all different, and 0 in each slot after them; their order is part of the question */
+    uint32_t cards[4];  /* up to four of 1 to 999, all different, then zeros; their order is part of the question */
     uint32_t count;     /* legs, 1 to 8; what stands in `legs` after them does not matter */
     offers_leg legs[8];
 } offers_question;

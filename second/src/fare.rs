@@ -245,9 +245,12 @@ impl Tariff {
     }
 
     fn cards_on_leg(&self, conditions: &Conditions, question: &Question, leg: &Leg) -> CardsOnLeg {
-        let use_of = |card| match conditions.reads_cards {
-            true => self.card_use(question, leg, card),
-            false => CardUse::None,
+        let use_of = |card| {
+            if conditions.reads_cards {
+                self.card_use(question, leg, card)
+            } else {
+                CardUse::None
+            }
         };
         CardsOnLeg {
             are_read: conditions.reads_cards,
