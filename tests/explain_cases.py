@@ -4,7 +4,7 @@ The names are short forms of those in source document 001, Appendices C, H, I an
 written by hand and share nothing with crates/. Positions are counted from the lengths in records.py.
 """
 from cases import SAMPLE, SAMPLE_RECORDS
-from records import GOOD, ar, co
+from records import GOOD, ar, co, re
 
 END = "Only this first fault is told. Once it is mended there may be another."
 
@@ -159,7 +159,17 @@ def changed(place, record):
     return SAMPLE_RECORDS[:place] + [record] + SAMPLE_RECORDS[place + 1 :]
 
 
-# The bundles of examples/, each with its lines. All but the first are the sample with a change that the last lines tell.
+# One offer for all railways, a railcard that counts beside other cards, and a members' card that does so on 1185 and stands alone on 1181.
+FAMILY_RECORDS = [
+    re({3: "Family railcard"}),
+    re({2: "021", 3: "Members' card"}),
+    co({33: "Y"}),
+    ar({7: "002"}),
+    ar({3: "1185", 4: "021", 5: "010000", 7: "001", 9: "N", 10: "000"}),
+    ar({3: "1181", 4: "021", 5: "025000", 6: "N", 7: "001", 9: "N", 10: "000"}),
+]
+
+# The bundles of examples/, each with its lines. The refused ones are the sample with a change that the last lines tell.
 SAMPLES = {
     "sample": (
         SAMPLE,
@@ -170,6 +180,17 @@ CO (conditions): 4
 RE (types of discount): 2
 AR (additional discounts): 3
 ME (memo): 1
+""",
+    ),
+    "family": (
+        b"".join(FAMILY_RECORDS),
+        """\
+OK 6
+The bundle is accepted: every record keeps the rules. Its records by table:
+CO (conditions): 1
+RE (types of discount): 2
+AR (additional discounts): 3
+ME (memo): 0
 """,
     ),
     "broken-field": (
