@@ -25,6 +25,9 @@ pub const BOOK_WORDS: usize = 16_385;
 /// The most legs of a [`Question`].
 pub const MOST_LEGS: usize = 8;
 
+/// The most cards of a [`Question`].
+pub const MOST_CARDS: usize = 4;
+
 /// A leg of a journey.
 #[repr(C)]
 #[derive(Clone, Copy, Debug, Default, PartialEq, Eq)]
@@ -42,22 +45,26 @@ pub struct Question {
     offer: u32,
     day: u32,
     persons: u32,
-    card: u32,
+    cards: [u32; MOST_CARDS],
     count: u32,
     legs: [Leg; MOST_LEGS],
 }
 
 impl Question {
-    /// Asks for an offer (1 to 99,999) on a day (YYYYMMDD, years 1583 to 9999), for 1 to 99 persons, with a card (1 to 999, or 0 for
-    /// none), over one to eight legs. It is `None` for more than eight legs: all other limits the engine judges.
-    pub fn new(offer: u32, day: u32, persons: u32, card: u32, legs: &[Leg]) -> Option<Question> {
-        if legs.len() > MOST_LEGS {
-            return None;
-        }
-        let mut slots = [Leg::default(); MOST_LEGS];
-        slots[..legs.len()].copy_from_slice(legs);
-        Some(Question { offer, day, persons, card, count: legs.len() as u32, legs: slots })
+    /// Asks for an offer (1 to 99,999) on a day (YYYYMMDD, years 1583 to 9999), for 1 to 99 persons, with up to four different cards (1
+    /// to 999 each), over one to eight legs. The order of the cards is part of the question, and so is that of the legs. A 0 stands for no
+    /// card, and no card may follow it. More than four cards or more than eight legs make no question: all other limits the engine judges.
+    pub fn new(offer: u32, day: u32, persons: u32, cards: &[u32], legs: &[Leg]) -> Option<Question> {
+        let count = legs.len() as u32;
+        Some(Question { offer, day, persons, cards: slots_of(cards)?, count, legs: slots_of(legs)? })
     }
+}
+
+/// The given values and then empty slots, or `None` if there are more values than slots.
+fn slots_of<T: Copy + Default, const SLOTS: usize>(given: &[T]) -> Option<[T; SLOTS]> {
+    let mut slots = [T::default(); SLOTS];
+    slots.get_mut(..given.len())?.copy_from_slice(given);
+    Some(slots)
 }
 
 /// What a ticket costs, in cents.
@@ -158,6 +165,7 @@ reasons! {
     14 PersonsOutside "the persons are fewer or more than a leg's conditions allow"
     15 ConditionUnread "a leg's conditions have one that the engine does not read"
     16 FareTooHigh "the fare is above 4,294,967,295 cents"
+    17 CardTwice "the question gives a card twice"
     21 BookUnsound "the book is not sound"
     22 NumberOutside "the till or the sequence is 0 or too large"
     23 NumberTaken "the sale number is held by another question"
@@ -200,7 +208,7 @@ pub fn judge(bundle: &[u8]) -> Result<usize, Refusal> {
     Ok(judgement.records as usize)
 }
 
-/// Prices a ticket from a bundle (refused by the numbers of [`judge`], and 11 to 16).
+/// Prices a ticket from a bundle (refused by the numbers of [`judge`], and 11 to 17).
 pub fn fare(bundle: &[u8], question: &Question) -> Result<Quote, Refusal> {
     // SAFETY: the slice is readable for its length
     let quote = unsafe { raw::offers_fare(bundle.as_ptr(), bundle.len(), *question) };

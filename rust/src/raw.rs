@@ -57,10 +57,10 @@ extern "C" {
 const _: () = {
     use std::mem::{offset_of, size_of};
     assert!(size_of::<Leg>() == 8 && offset_of!(Leg, railway) == 0 && offset_of!(Leg, fare) == 4);
-    assert!(size_of::<Question>() == 84);
+    assert!(size_of::<Question>() == 96);
     assert!(offset_of!(Question, offer) == 0 && offset_of!(Question, day) == 4);
-    assert!(offset_of!(Question, persons) == 8 && offset_of!(Question, card) == 12);
-    assert!(offset_of!(Question, count) == 16 && offset_of!(Question, legs) == 20);
+    assert!(offset_of!(Question, persons) == 8 && offset_of!(Question, cards) == 12);
+    assert!(offset_of!(Question, count) == 28 && offset_of!(Question, legs) == 32);
     assert!(size_of::<Head>() == 24 && offset_of!(Head, number) == 0);
     assert!(offset_of!(Head, place) == 8 && offset_of!(Head, detail) == 16);
     assert!(size_of::<Judgement>() == 32 && offset_of!(Judgement, records) == 24);
