@@ -1,4 +1,5 @@
-/* A till's work with one ticket: sell it, lose the signal and send the sale again, cancel it, and send it again by mistake.
+/* A till's work with one ticket of a family that shows two cards: sell it, lose the signal and send the sale again, cancel it, and send it
+ * again by mistake.
  * Run by examples/run-sell, which also builds it. Usage: sell BUNDLE */
 #include "../include/offers.h"
 
@@ -15,6 +16,10 @@ static uint32_t book[OFFERS_BOOK_WORDS];
 static uint32_t book_before[OFFERS_BOOK_WORDS];
 
 enum { NORTH = 1185, SOUTH = 1181 };
+
+/* In examples/family.bundle both cards reduce the fare on NORTH, one after the other; on SOUTH the members' card stands alone, and the leg
+ * takes the lesser amount of the two. */
+enum { RAILCARD = 7, MEMBERS_CARD = 21 };
 
 /* The sale number: it names this sale for ever. Whatever is sent under it is booked once at most. */
 enum { TILL = 1, SEQUENCE = 1 };
@@ -67,6 +72,12 @@ static void show(const char *step, offers_receipt receipt) {
            NORTH, owed_to(NORTH), SOUTH, owed_to(SOUTH), owed_to_all());
 }
 
+static void show_price(const char *who, size_t length, offers_question question) {
+    offers_quote quote = offers_fare(bundle, length, question);
+    stop_if_refused(quote.number, quote.place, quote.detail);
+    printf("%s: %" PRIu64 " cents, %" PRIu32 " and %" PRIu32 "\n", who, quote.fare, quote.parts[0], quote.parts[1]);
+}
+
 int main(int argc, char **argv) {
     if (argc != 2) {
         fprintf(stderr, "usage: sell BUNDLE\n");
@@ -81,13 +92,13 @@ int main(int argc, char **argv) {
         .offer = 42,
         .day = 20240615,
         .persons = 3,
-        .card = 7,
+        .cards = {RAILCARD},
         .count = 2,
         .legs = {{.railway = NORTH, .fare = 1010}, {.railway = SOUTH, .fare = 500}},
     };
-    offers_quote quote = offers_fare(bundle, length, ticket);
-    stop_if_refused(quote.number, quote.place, quote.detail);
-    printf("the ticket costs %" PRIu64 " cents\n", quote.fare);
+    show_price("the ticket with the railcard", length, ticket);
+    ticket.cards[1] = MEMBERS_CARD;
+    show_price("the ticket with both cards", length, ticket);
 
     offers_receipt sold = offers_sale(book, OFFERS_BOOK_WORDS, bundle, length, TILL, SEQUENCE, ticket);
     show("sale", sold);
