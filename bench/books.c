@@ -24,16 +24,18 @@ static struct sides sides;
 
 /* ---- tickets and sales */
 
-/* One to eight legs by chance, with and without a card. */
+/* One to eight legs by chance, with none to four cards, of which the first has records. */
 static offers_question random_ticket(void) {
-    offers_question q = {.offer = 1, .day = BUNDLE_DAY, .persons = 1 + chance(9), .card = chance(2), .count = 1 + chance(8)};
+    offers_question q = {.offer = 1, .day = BUNDLE_DAY, .persons = 1 + chance(9), .count = 1 + chance(8)};
+    uint32_t cards = chance(5);
+    for (uint32_t k = 0; k < cards; k++) q.cards[k] = 1 + k;
     for (uint32_t k = 0; k < q.count; k++) q.legs[k] = (offers_leg){1 + chance(RAILWAYS), 100 + chance(9900)};
     return q;
 }
 
 /* Four legs, as a ticket of the middle. */
 static offers_question timed_ticket(void) {
-    offers_question q = {.offer = 1, .day = BUNDLE_DAY, .persons = 2, .card = 1, .count = 4};
+    offers_question q = {.offer = 1, .day = BUNDLE_DAY, .persons = 2, .cards = {1}, .count = 4};
     for (uint32_t k = 0; k < q.count; k++) q.legs[k] = (offers_leg){1 + k, 1010};
     return q;
 }

@@ -9,10 +9,15 @@ enum { MARK = 2, RECORD_ROOM = 1300 };
 static const char MARKS[] = "CO RE AR ME";
 static const size_t LENGTHS[] = {155, 440, 49, 1231};
 
-const struct recipe TEXT_HEAVY = {"text-heavy", 1, 0, 100, 34};
-const struct recipe CO_HEAVY = {"CO-heavy", 100, 1, 0, 0};
-const struct recipe AR_HEAVY = {"AR-heavy", 1, 100, 0, 0};
-const struct recipe MIXED = {"mixed", 5, 5, 1, 0};
+const struct recipe TEXT_HEAVY = {"text-heavy", 1, 0, 100, 34, 1};
+const struct recipe CO_HEAVY = {"CO-heavy", 100, 1, 0, 0, 1};
+const struct recipe AR_HEAVY = {"AR-heavy", 1, 100, 0, 0, 1};
+const struct recipe MIXED = {"mixed", 5, 5, 1, 0, 1};
+const struct recipe FOUR_CARDS = {"four cards", 5, 5, 1, 0, 4};
+
+/* Fields 5 to 10 of an AR record: discount, whether it is applied together with others, rating, companion, rounding and factor. The first
+ * code's are those of every recipe. */
+static const char *const CARDS[] = {"030000Y001N+050", "010000Y001NN000", "005000Y002N-010", "060000N001NN000"};
 
 /* ---- chance */
 
@@ -59,9 +64,9 @@ static void add_co(struct bundle *b, struct recipe recipe, unsigned offer, unsig
     add(b, record);
 }
 
-static void add_ar(struct bundle *b, unsigned offer, unsigned railway) {
+static void add_ar(struct bundle *b, unsigned offer, unsigned railway, unsigned code) {
     char record[RECORD_ROOM];
-    snprintf(record, sizeof record, "AR1185%05u%04u001030000Y001N+050202401010120241231", offer, railway);
+    snprintf(record, sizeof record, "AR1185%05u%04u%03u%s202401010120241231", offer, railway, code, CARDS[code - 1]);
     add(b, record);
 }
 
@@ -78,17 +83,18 @@ static void add_types(struct bundle *b, struct recipe recipe, size_t size) {
     size_t share = size * (size_t)recipe.re_percent / 100;
     unsigned code = 1;
     do add_re(b, code++);
-    while (fits(b, share, MARK + LENGTHS[1]) && code <= BUNDLE_CODES);
+    while (code <= (unsigned)recipe.codes || (fits(b, share, MARK + LENGTHS[1]) && code <= BUNDLE_CODES));
 }
 
 /* Bytes of an offer's records for one railway. */
 static size_t bytes_for(struct recipe recipe, int railway) {
-    return (recipe.co > railway) * (MARK + LENGTHS[0]) + (recipe.ar > railway) * (MARK + LENGTHS[2]) + (recipe.me > railway) * (MARK + LENGTHS[3]);
+    size_t cards = (recipe.ar > railway) * (size_t)recipe.codes;
+    return (recipe.co > railway) * (MARK + LENGTHS[0]) + cards * (MARK + LENGTHS[2]) + (recipe.me > railway) * (MARK + LENGTHS[3]);
 }
 
 static void add_railway(struct bundle *b, struct recipe recipe, unsigned offer, int railway) {
     if (recipe.co > railway) add_co(b, recipe, offer, (unsigned)railway);
-    if (recipe.ar > railway) add_ar(b, offer, (unsigned)railway);
+    for (int code = 1; recipe.ar > railway && code <= recipe.codes; code++) add_ar(b, offer, (unsigned)railway, (unsigned)code);
     if (recipe.me > railway) add_me(b, offer, (unsigned)railway);
 }
 
@@ -111,7 +117,7 @@ void make_bundle(struct bundle *b, struct recipe recipe, size_t size) {
 enum { COSTLIEST_OFFERS = 3, RAILWAYS = 10000 };
 
 static void add_needed(struct bundle *b) {
-    const struct recipe no_links = {"", 1, 0, 0, 0};
+    const struct recipe no_links = {"", 1, 0, 0, 0, 1};
     for (unsigned offer = 1; offer <= COSTLIEST_OFFERS; offer++) add_co(b, no_links, offer, 0);
     add_re(b, 1);
 }
@@ -121,7 +127,7 @@ void make_costliest(struct bundle *b, int needed_last) {
     b->length = b->records = 0;
     if (!needed_last) add_needed(b);
     size_t end = needed_last ? BUNDLE_LIMIT - needed : BUNDLE_LIMIT;
-    for (unsigned k = 0; fits(b, end, MARK + LENGTHS[2]); k++) add_ar(b, 1 + k / RAILWAYS, k % RAILWAYS);
+    for (unsigned k = 0; fits(b, end, MARK + LENGTHS[2]); k++) add_ar(b, 1 + k / RAILWAYS, k % RAILWAYS, 1);
     if (needed_last) add_needed(b);
 }
 
@@ -143,6 +149,22 @@ unsigned middle_offer(const struct bundle *b) {
     char offer[6] = "";
     memcpy(offer, b->bytes + start_of(b, middle) + MARK + 4, 5);
     return (unsigned)atoi(offer);
+}
+
+/* ---- other cards */
+
+enum { DISCOUNT_AT = 17, LAST_DAY_AT = 42 };
+
+static void draw_card(uint8_t *record) {
+    char said[16];
+    snprintf(said, sizeof said, "%06u%c%03uN%c%03u", chance(100001), "YN"[chance(2)], 1 + chance(3), "+-0N"[chance(4)], 1 + chance(999));
+    memcpy(record + DISCOUNT_AT - 1, said, strlen(said));
+    if (chance(5) == 0) memcpy(record + LAST_DAY_AT - 1, "20240531", 8);
+}
+
+void draw_cards(struct bundle *b) {
+    for (size_t at = 0; at < b->length; at += length_at(b, at))
+        if (memcmp(b->bytes + at, "AR", MARK) == 0) draw_card(b->bytes + at + MARK);
 }
 
 /* ---- damage */

@@ -12,14 +12,16 @@ struct bundle {
     size_t length, records;
 };
 
-/* What each offer of a bundle has: so many CO, AR and ME records, the first for all railways, then railways 1, 2, ... Before the offers stand
- * RE records: one, or as many as fill `re_percent` of the size. */
+/* What each offer of a bundle has: so many CO and ME records, the first for all railways, then railways 1, 2, ..., and for as many railways as
+ * `ar` says one AR record of each of `codes` codes. Before the offers stand RE records: one a code, or as many as fill `re_percent` of the
+ * size. */
 struct recipe {
     const char *name;
-    int co, ar, me, re_percent;
+    int co, ar, me, re_percent, codes;
 };
 
-extern const struct recipe TEXT_HEAVY, CO_HEAVY, AR_HEAVY, MIXED;
+/* FOUR_CARDS has codes 1 to 4: the first three are applied together, two of them at an equal rating, and the fourth alone. */
+extern const struct recipe TEXT_HEAVY, CO_HEAVY, AR_HEAVY, MIXED, FOUR_CARDS;
 
 /* Fills `size` bytes as far as whole records do. Offers count from 1, codes too. */
 void make_bundle(struct bundle *b, struct recipe recipe, size_t size);
@@ -33,6 +35,10 @@ unsigned middle_offer(const struct bundle *b);
 
 /* Breaks a bundle in one of several ways, or by luck leaves it good. */
 void damage(struct bundle *b);
+
+/* Draws what the AR records say anew: discount, whether it is applied together with others, rating, rounding and last day. The bundle stays
+ * good. */
+void draw_cards(struct bundle *b);
 
 /* A number below `limit`. */
 unsigned chance(unsigned limit);

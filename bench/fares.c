@@ -7,16 +7,17 @@
 #include <stdlib.h>
 #include <string.h>
 
-enum { KIB = 1024, ASKED = 600 };
+enum { KIB = 1024, ASKED = 600, MOST_CARDS = 4 };
 
 static struct bundle bundle, broken;
 
-/* A small bundle has one offer: 1 RE, 5 CO, 5 AR and 1 ME. */
-static const size_t SMALL = 2715, LARGE = 64 * KIB;
+/* A small bundle has one offer: 1 RE, 5 CO, 5 AR and 1 ME, or with four codes 4 RE, 5 CO, 20 AR and 1 ME. */
+static const size_t SMALL = 2715, SMALL_OF_FOUR = 4806, LARGE = 64 * KIB;
 
-/* Legs on railways 1 to 8; only 1 to 4 have records of their own. */
-static offers_question question_of(unsigned offer, uint32_t legs, uint32_t card) {
-    offers_question q = {.offer = offer, .day = BUNDLE_DAY, .persons = 2, .card = card, .count = legs};
+/* Legs on railways 1 to 8; only 1 to 4 have records of their own. The cards come in falling code, so that they have to be put in order. */
+static offers_question question_of(unsigned offer, uint32_t legs, uint32_t cards) {
+    offers_question q = {.offer = offer, .day = BUNDLE_DAY, .persons = 2, .count = legs};
+    for (uint32_t k = 0; k < cards; k++) q.cards[k] = cards - k;
     for (uint32_t k = 0; k < legs; k++) q.legs[k] = (offers_leg){1 + k, 1010 + 100 * k};
     return q;
 }
@@ -29,10 +30,18 @@ static offers_quote agreed(const struct bundle *b, offers_question q) {
     return engine;
 }
 
+/* Up to four of the codes 1 to 5, of which 5 has no record; now and then one twice, one that is too large or one after an empty slot. */
+static void draw_question_cards(offers_question *q) {
+    uint32_t count = chance(MOST_CARDS + 1), first = chance(5), stride = 1 + chance(4);
+    for (uint32_t k = 0; k < count; k++) q->cards[k] = 1 + (first + k * stride) % 5;
+    if (chance(8) == 0) q->cards[chance(MOST_CARDS)] = (uint32_t[]){0, 1, 2, 1000}[chance(4)];
+}
+
 static offers_question random_question(void) {
     static const uint32_t DAYS[] = {BUNDLE_DAY, 20240101, 20241231, 20250101, 20240230};
-    offers_question q = {.offer = 1 + chance(4), .day = chance(4) ? BUNDLE_DAY : DAYS[chance(5)], .persons = chance(8), .card = chance(3), .count = 1 + chance(8)};
-    for (uint32_t k = 0; k < q.count; k++) q.legs[k] = (offers_leg){1 + chance(6), chance(1000000)};
+    offers_question q = {.offer = 1 + chance(4), .day = chance(4) ? BUNDLE_DAY : DAYS[chance(5)], .persons = chance(8), .count = 1 + chance(8)};
+    draw_question_cards(&q);
+    for (uint32_t k = 0; k < q.count; k++) q.legs[k] = (offers_leg){1 + chance(6), chance(chance(2) ? 1000000 : 1000)};
     return q;
 }
 
@@ -43,15 +52,24 @@ static void change_conditions(struct bundle *b) {
         if (chance(3) == 0) b->bytes[at + 2 + 112 + chance(43)] = (uint8_t)LIKELY[chance(sizeof LIKELY - 1)];
 }
 
+/* Half of the bundles have four codes, whose records are drawn anew. */
+static void make_random_bundle(struct bundle *b, unsigned k) {
+    make_bundle(b, k % 2 == 0 ? MIXED : FOUR_CARDS, k % 2 == 0 ? 5000 : 10000);
+    if (k % 2 == 1) draw_cards(b);
+    if (k % 3 == 0) change_conditions(b);
+}
+
 static void compare_on_random(void) {
-    unsigned answered = 0;
+    unsigned answered = 0, with_several = 0;
     for (unsigned k = 0; k < ASKED; k++) {
-        make_bundle(&broken, MIXED, 5000);
-        if (k % 3 == 0) change_conditions(&broken);
-        answered += agreed(&broken, random_question()).number == 0;
+        make_random_bundle(&broken, k);
+        offers_question question = random_question();
+        if (agreed(&broken, question).number != 0) continue;
+        answered++;
+        with_several += question.cards[1] != 0;
     }
-    printf("The same fare for %d random questions, %u of them answered.\n", ASKED, answered);
-    demand(answered > ASKED / 10, "hardly a random question is answered");
+    printf("The same fare for %d random questions, %u of them answered, %u with several cards.\n", ASKED, answered, with_several);
+    demand(answered > ASKED / 10 && with_several > ASKED / 20, "hardly a random question is answered");
 }
 
 /* ---- the times */
@@ -78,11 +96,12 @@ static void verdict(void *with) {
 
 static double best(int runs, action *work, struct asked *a) { return time_of(runs, calls_for(NULL, work, a), NULL, work, a); }
 
-static void compare_question(int runs, uint32_t legs, uint32_t card) {
-    struct asked a = {question_of(middle_offer(&bundle), legs, card), 0};
+static void compare_question(int runs, uint32_t legs, uint32_t cards) {
+    static const char *const SAID[MOST_CARDS + 1] = {"no card", "card", "2 cards", "3 cards", "4 cards"};
+    struct asked a = {question_of(middle_offer(&bundle), legs, cards), 0};
     demand(agreed(&bundle, a.question).number == 0, "a question made to be answered is not");
     char what[80];
-    snprintf(what, sizeof what, "%u leg%s, %s, %zu bytes", legs, legs == 1 ? "" : "s", card == 0 ? "no card" : "card", bundle.length);
+    snprintf(what, sizeof what, "%u leg%s, %s, %zu bytes", legs, legs == 1 ? "" : "s", SAID[cards], bundle.length);
     double took = best(runs, engine, &a);
     tell(what, took, "plain C", best(runs, plain, &a));
     tell(what, took, "the engine's verdict", best(runs, verdict, &a));
@@ -91,7 +110,13 @@ static void compare_question(int runs, uint32_t legs, uint32_t card) {
 static void compare_bundle(int runs, size_t size) {
     make_bundle(&bundle, MIXED, size);
     for (uint32_t legs = 1; legs <= 8; legs += 7)
-        for (uint32_t card = 0; card <= 1; card++) compare_question(runs, legs, card);
+        for (uint32_t cards = 0; cards <= 1; cards++) compare_question(runs, legs, cards);
+}
+
+static void compare_several(int runs, size_t size) {
+    make_bundle(&bundle, FOUR_CARDS, size);
+    compare_question(runs, 8, 1);
+    compare_question(runs, 8, MOST_CARDS);
 }
 
 int main(int argc, char **argv) {
@@ -100,5 +125,7 @@ int main(int argc, char **argv) {
     compare_on_random();
     compare_bundle(runs, SMALL);
     compare_bundle(runs, LARGE);
+    compare_several(runs, SMALL_OF_FOUR);
+    compare_several(runs, LARGE);
     return 0;
 }

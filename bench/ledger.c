@@ -7,7 +7,8 @@
 /* The key of the sales is (till, sequence); the index on the parts has all that a balance reads of them. */
 static const char SCHEMA[] =
     "CREATE TABLE sales (id INTEGER PRIMARY KEY, till INTEGER NOT NULL, sequence INTEGER NOT NULL, offer INTEGER NOT NULL, day INTEGER NOT NULL,"
-    " persons INTEGER NOT NULL, card INTEGER NOT NULL, cancelled INTEGER NOT NULL DEFAULT 0, UNIQUE (till, sequence));"
+    " persons INTEGER NOT NULL, card_1 INTEGER NOT NULL, card_2 INTEGER NOT NULL, card_3 INTEGER NOT NULL, card_4 INTEGER NOT NULL,"
+    " cancelled INTEGER NOT NULL DEFAULT 0, UNIQUE (till, sequence));"
     "CREATE TABLE parts (sale INTEGER NOT NULL, leg INTEGER NOT NULL, railway INTEGER NOT NULL, fare INTEGER NOT NULL, amount INTEGER NOT NULL,"
     " PRIMARY KEY (sale, leg)) WITHOUT ROWID;"
     "CREATE INDEX parts_by_railway ON parts (railway, sale, amount);";
@@ -17,7 +18,8 @@ enum statement { BEGIN, COMMIT, ADD_SALE, ADD_PART, FIND_SALE, FIND_PARTS, CANCE
 static const char *const TEXTS[STATEMENTS] = {
     [BEGIN] = "BEGIN",
     [COMMIT] = "COMMIT",
-    [ADD_SALE] = "INSERT OR IGNORE INTO sales (till, sequence, offer, day, persons, card) VALUES (?, ?, ?, ?, ?, ?)",
+    [ADD_SALE] = "INSERT OR IGNORE INTO sales (till, sequence, offer, day, persons, card_1, card_2, card_3, card_4)"
+                 " VALUES (?, ?, ?, ?, ?, ?, ?, ?, ?)",
     [ADD_PART] = "INSERT INTO parts (sale, leg, railway, fare, amount) VALUES (?, ?, ?, ?, ?)",
     [FIND_SALE] = "SELECT id, cancelled FROM sales WHERE till = ? AND sequence = ?",
     [FIND_PARTS] = "SELECT leg, amount FROM parts WHERE sale = ?",
@@ -100,7 +102,8 @@ static void add_parts(struct ledger *l, const offers_question *q, const uint32_t
 offers_receipt ledger_sale(struct ledger *l, uint32_t till, uint64_t sequence, const offers_question *q, const uint32_t parts[8]) {
     offers_receipt receipt = {.outcome = OFFERS_BOOKED};
     run(l, BEGIN, 0, NULL);
-    run(l, ADD_SALE, 6, (int64_t[]){till, (int64_t)sequence, q->offer, q->day, q->persons, q->card});
+    const uint32_t *cards = q->cards;
+    run(l, ADD_SALE, 9, (int64_t[]){till, (int64_t)sequence, q->offer, q->day, q->persons, cards[0], cards[1], cards[2], cards[3]});
     if (sqlite3_changes(l->base) == 1) {
         add_parts(l, q, parts, &receipt);
     } else {

@@ -4,7 +4,7 @@
 #include <stdbool.h>
 #include <string.h>
 
-enum { CENT = 100000, MOST_LEGS = 8 };
+enum { CENT = 100000, MOST_LEGS = 8, MOST_CARDS = 4 };
 
 /* ---- the question */
 
@@ -14,9 +14,23 @@ static bool legs_in_limits(const offers_question *q) {
     return true;
 }
 
+/* Used slots come first. */
+static bool cards_in_limits(const offers_question *q) {
+    for (size_t k = 0; k < MOST_CARDS; k++)
+        if (q->cards[k] > 999 || (k > 0 && q->cards[k] != 0 && q->cards[k - 1] == 0)) return false;
+    return true;
+}
+
 static bool in_limits(const offers_question *q) {
-    return q->offer >= 1 && q->offer <= 99999 && plain_is_day(q->day) && q->persons >= 1 && q->persons <= 99 && q->card <= 999 && q->count >= 1 &&
-           q->count <= MOST_LEGS && legs_in_limits(q);
+    return q->offer >= 1 && q->offer <= 99999 && plain_is_day(q->day) && q->persons >= 1 && q->persons <= 99 && cards_in_limits(q) &&
+           q->count >= 1 && q->count <= MOST_LEGS && legs_in_limits(q);
+}
+
+static bool gives_a_card_twice(const offers_question *q) {
+    for (size_t k = 1; k < MOST_CARDS && q->cards[k] != 0; k++)
+        for (size_t j = 0; j < k; j++)
+            if (q->cards[j] == q->cards[k]) return true;
+    return false;
 }
 
 /* ---- the records of a leg */
@@ -73,10 +87,44 @@ static uint64_t reduced(uint64_t amount, const uint8_t *record, size_t discount_
     return rounded(amount * kept, record[rounding_at - 1], (uint64_t)plain_number(record, rounding_at + 1, 3));
 }
 
-static uint64_t after_card(const uint8_t *bundle, size_t length, const offers_question *q, long railway, const uint8_t *co, uint64_t amount) {
-    if (q->card == 0 || co[122 - 1] != 'Y') return amount;
-    const uint8_t *ar = choose(bundle, length, &PLAIN_AR, q->offer, railway, q->card);
-    return ar != NULL && holds_day(&PLAIN_AR, ar, q->day) ? reduced(amount, ar, 17, 28) : amount;
+static uint64_t reduced_by_card(uint64_t amount, const uint8_t *ar) { return reduced(amount, ar, 17, 28); }
+
+/* ---- the cards */
+
+/* The records that are applied together, by rating and then by code. */
+struct joined {
+    const uint8_t *records[MOST_CARDS];
+    size_t count;
+};
+
+static long rank(const uint8_t *ar) { return 1000 * plain_number(ar, 24, 3) + plain_number(ar, 14, 3); }
+
+static void join(struct joined *joined, const uint8_t *ar) {
+    size_t at = joined->count++;
+    for (; at > 0 && rank(joined->records[at - 1]) > rank(ar); at--) joined->records[at] = joined->records[at - 1];
+    joined->records[at] = ar;
+}
+
+static uint64_t reduced_by_all(uint64_t amount, const struct joined *joined) {
+    for (size_t k = 0; k < joined->count; k++) amount = reduced_by_card(amount, joined->records[k]);
+    return amount;
+}
+
+static uint64_t lesser(uint64_t a, uint64_t b) { return a < b ? a : b; }
+
+/* The least of what the records with Y come to together and of what each other one comes to alone. */
+static uint64_t after_cards(const uint8_t *bundle, size_t length, const offers_question *q, long railway, const uint8_t *co, uint64_t amount) {
+    if (co[122 - 1] != 'Y') return amount;
+    struct joined joined = {.count = 0};
+    uint64_t least = UINT64_MAX;
+    for (size_t k = 0; k < MOST_CARDS && q->cards[k] != 0; k++) {
+        const uint8_t *ar = choose(bundle, length, &PLAIN_AR, q->offer, railway, q->cards[k]);
+        if (ar == NULL || !holds_day(&PLAIN_AR, ar, q->day)) continue;
+        if (ar[23 - 1] == 'Y') join(&joined, ar);
+        else least = lesser(least, reduced_by_card(amount, ar));
+    }
+    if (joined.count > 0) least = lesser(least, reduced_by_all(amount, &joined));
+    return least == UINT64_MAX ? amount : least;
 }
 
 /* ---- the fare */
@@ -93,7 +141,7 @@ static offers_quote price(const uint8_t *bundle, size_t length, const offers_que
         if (!persons_fit(co, q->persons)) return refused(OFFERS_PERSONS_OUTSIDE, k, 0);
         uint64_t unread = unread_condition(co);
         if (unread != 0) return refused(OFFERS_CONDITION_UNREAD, k, unread);
-        uint64_t amount = after_card(bundle, length, q, railway, co, reduced(q->legs[k].fare, co, 128, 134));
+        uint64_t amount = after_cards(bundle, length, q, railway, co, reduced(q->legs[k].fare, co, 128, 134));
         quote.parts[k] = (uint32_t)(amount * q->persons);
         quote.fare += quote.parts[k];
     }
@@ -104,5 +152,6 @@ offers_quote plain_fare(const uint8_t *bundle, size_t length, offers_question qu
     offers_judgement judgement = plain_verdict(bundle, length);
     if (judgement.number != 0) return refused(judgement.number, judgement.place, judgement.detail);
     if (!in_limits(&question)) return refused(OFFERS_QUESTION_LIMITS, 0, 0);
+    if (gives_a_card_twice(&question)) return refused(OFFERS_CARD_TWICE, 0, 0);
     return price(bundle, length, &question);
 }
