@@ -123,6 +123,11 @@ pub enum BookDefect {
     LastWordSet,
 }
 
+/// A place in an entry, and values for it.
+type BadWord = (usize, &'static [u32]);
+
+const NO_DAYS: [u32; 5] = [0, 15_821_231, 20_230_229, 20_241_301, 100_000_101];
+
 impl BookDefect {
     const OF_ONE_KIND: [BookDefect; 35] = [
         BookDefect::NoWords,
@@ -214,67 +219,96 @@ impl BookDefect {
             random.place_in(used),
             used + random.place_in(LEG_SLOTS - used),
         );
-        let mut set = |place: usize, values: &[u32]| words[start + place] = random.pick(values);
+        let bad_word = self
+            .bad_word()
+            .or_else(|| self.bad_word_of_leg(used_leg, unused_leg))
+            .or_else(|| self.bad_word_at_a_drawn_place(random, unused_leg));
+        if let Some((place, values)) = bad_word {
+            words[start + place] = random.pick(values);
+        }
+        self.damage_counts(random, words, start);
+        self.damage_book(random, words, count);
+    }
+
+    /// A word of the entry that stands at one place, and values that it may not have.
+    fn bad_word(self) -> Option<BadWord> {
+        let bad: BadWord = match self {
+            BookDefect::TillZero => (place::TILL, &[0]),
+            BookDefect::TillTooLarge => (place::TILL, &[65_536, u32::MAX]),
+            BookDefect::SequenceZero => (place::SEQUENCE, &[0]),
+            BookDefect::OfferZero => (place::OFFER, &[0]),
+            BookDefect::OfferTooLarge => (place::OFFER, &[100_000, u32::MAX]),
+            BookDefect::NoSuchDay => (place::DAY, &NO_DAYS),
+            BookDefect::NoLegs => (place::LEG_COUNT, &[0]),
+            BookDefect::NineLegs => (place::LEG_COUNT, &[9, 256, u32::MAX]),
+            BookDefect::CategorySet => (place::CATEGORIES, &[1, 2, u32::MAX]),
+            BookDefect::NoPersons => (place::PERSONS, &[0]),
+            BookDefect::TooManyPersons => (place::PERSONS, &[100, u32::MAX]),
+            BookDefect::MarkUnknown => (place::MARK, &[2, 3, 257, u32::MAX]),
+            BookDefect::ReturnedSet => (place::RETURNED, &[1, u32::MAX]),
+            BookDefect::ReserveSet => (place::RESERVE, &[1, u32::MAX]),
+            _ => return None,
+        };
+        Some(bad)
+    }
+
+    fn bad_word_of_leg(self, used_leg: usize, unused_leg: usize) -> Option<BadWord> {
+        let bad: BadWord = match self {
+            BookDefect::RailwayZero => (place::railway(used_leg), &[0]),
+            BookDefect::RailwayTooLarge => (place::railway(used_leg), &[10_000, u32::MAX]),
+            BookDefect::PlainFareTooLarge => (place::fare(used_leg), &[1_000_000, u32::MAX]),
+            BookDefect::PartTooLarge => (place::PARTS + used_leg, &[99_493_912, u32::MAX]),
+            BookDefect::UnusedPartSet => (place::PARTS + unused_leg, &[1, 1500]),
+            _ => return None,
+        };
+        Some(bad)
+    }
+
+    /// A word that has to be zero, one of several.
+    fn bad_word_at_a_drawn_place(self, random: &mut Random, unused_leg: usize) -> Option<BadWord> {
+        let bad: BadWord = match self {
+            BookDefect::FurtherPersons => (place::PERSONS + 1 + random.place_in(10), &[1, 99]),
+            BookDefect::StationSet => {
+                let leg = random.place_in(LEG_SLOTS);
+                (place::fare(leg) + 1 + random.place_in(2), &[1, u32::MAX])
+            }
+            BookDefect::UnusedLegSet => {
+                let places = [place::railway(unused_leg), place::fare(unused_leg)];
+                (random.pick(&places), &[1, 1185])
+            }
+            _ => return None,
+        };
+        Some(bad)
+    }
+
+    fn damage_counts(self, random: &mut Random, words: &mut [u32], start: usize) {
         match self {
-            BookDefect::NoWords => words.clear(),
-            BookDefect::OneWordShort => words.truncate(BOOK_WORDS - 1),
-            BookDefect::OneWordLong => words.push(0),
             BookDefect::CountOverLimit => words[0] = 257,
             BookDefect::CountHuge => words[0] = random.pick(&[65_536, 1 << 31, u32::MAX]),
             BookDefect::CountOverEntries => words[0] += 1,
             BookDefect::CountUnderEntries => words[0] -= 1,
+            BookDefect::OneLegMore => words[start + place::LEG_COUNT] += 1,
+            BookDefect::OneLegLess => words[start + place::LEG_COUNT] -= 1,
+            _ => (),
+        }
+    }
+
+    fn damage_book(self, random: &mut Random, words: &mut Vec<u32>, count: usize) {
+        match self {
+            BookDefect::NoWords => words.clear(),
+            BookDefect::OneWordShort => words.truncate(BOOK_WORDS - 1),
+            BookDefect::OneWordLong => words.push(0),
             BookDefect::CountWithoutEntries => {
                 *words = empty_book();
                 words[0] = 1;
             }
             BookDefect::NumberRepeated => repeat_a_number(random, words, count),
-            BookDefect::TillZero => set(place::TILL, &[0]),
-            BookDefect::TillTooLarge => set(place::TILL, &[65_536, u32::MAX]),
-            BookDefect::SequenceZero => set(place::SEQUENCE, &[0]),
-            BookDefect::OfferZero => set(place::OFFER, &[0]),
-            BookDefect::OfferTooLarge => set(place::OFFER, &[100_000, u32::MAX]),
-            BookDefect::NoSuchDay => set(
-                place::DAY,
-                &[0, 15_821_231, 20_230_229, 20_241_301, 100_000_101],
-            ),
-            BookDefect::NoLegs => set(place::LEG_COUNT, &[0]),
-            BookDefect::NineLegs => set(place::LEG_COUNT, &[9, 256, u32::MAX]),
-            BookDefect::OneLegMore => words[start + place::LEG_COUNT] += 1,
-            BookDefect::OneLegLess => words[start + place::LEG_COUNT] -= 1,
-            BookDefect::CategorySet => set(place::CATEGORIES, &[1, 2, u32::MAX]),
-            BookDefect::NoPersons => set(place::PERSONS, &[0]),
-            BookDefect::TooManyPersons => set(place::PERSONS, &[100, u32::MAX]),
-            BookDefect::FurtherPersons => {
-                let further = place::PERSONS + 1 + random.place_in(10);
-                words[start + further] = random.pick(&[1, 99]);
-            }
-            BookDefect::RailwayZero => set(place::railway(used_leg), &[0]),
-            BookDefect::RailwayTooLarge => set(place::railway(used_leg), &[10_000, u32::MAX]),
-            BookDefect::PlainFareTooLarge => set(place::fare(used_leg), &[1_000_000, u32::MAX]),
-            BookDefect::StationSet => {
-                let station = place::fare(random.place_in(LEG_SLOTS)) + 1 + random.place_in(2);
-                words[start + station] = random.pick(&[1, u32::MAX]);
-            }
-            BookDefect::PartTooLarge => {
-                set(place::PARTS + used_leg, &[99_493_912, u32::MAX]);
-            }
-            BookDefect::UnusedLegSet => {
-                let word = random.pick(&[place::railway(unused_leg), place::fare(unused_leg)]);
-                words[start + word] = random.pick(&[1, 1185]);
-            }
-            BookDefect::UnusedPartSet => set(place::PARTS + unused_leg, &[1, 1500]),
-            BookDefect::MarkUnknown => set(place::MARK, &[2, 3, 257, u32::MAX]),
-            BookDefect::ReturnedSet => set(place::RETURNED, &[1, u32::MAX]),
-            BookDefect::ReserveSet => set(place::RESERVE, &[1, u32::MAX]),
             BookDefect::UnusedEntrySet => {
                 let first = 1 + count * ENTRY_WORDS;
                 words[first + random.place_in(BOOK_WORDS - first)] = 1;
             }
             BookDefect::LastWordSet => words[BOOK_WORDS - 1] = 1,
-            BookDefect::CardTooLarge(_)
-            | BookDefect::CardTwice(..)
-            | BookDefect::CardBehindAGap(_)
-            | BookDefect::PartOverBoundOfCards(_) => (),
+            _ => (),
         }
     }
 }
