@@ -2,6 +2,7 @@ pub mod Tests
 pub mod Least
 pub mod Lists
 pub mod Rising
+pub mod Only
 pub mod Fours
 pub mod Parts
 pub mod Digits

@@ -1,6 +1,6 @@
 -- Laws of rising order: the same elements, each below all that follow it, and in no other order.
 -- Assumes nothing.
-use Prim.Native.Nat.{ℕ, zero, suc, _+_, _≤_, _<_, zero-le, suc-le-suc}
+use Prim.Native.Nat.{ℕ, zero, suc, _+_, _<_, zero-le, suc-le-suc}
 use mathlib.Core.Path.{_≡_, refl, sym, _∙_, ap, ap₂}
 use mathlib.Core.Bool.{Bool, true, false, cond, not, _&&_, _||_, and-true, or-true, or-false}
 use mathlib.Core.List.{List, [], _∷_, map}
@@ -190,10 +190,10 @@ module _ {A : Type 0} (rank : A → ℕ) where
       )
 
 -- IN NO OTHER ORDER: of numbers, two rows that rise and have the same elements are one
-module _ (rank : ℕ → ℕ) where
-  abbrev pub has : ℕ → List ℕ → Bool
-  has i xs = any (eqb i) xs
+abbrev pub has : ℕ → List ℕ → Bool
+has i xs = any (eqb i) xs
 
+module _ (rank : ℕ → ℕ) where
   -- what stands behind the first is above it
   above : (x : ℕ) (xs : List ℕ) → every (below rank x) xs ≡ true → (i : ℕ) → has i xs ≡ true → rank x < rank i
   above x xs e i h =

@@ -1,28 +1,30 @@
 -- What the loops over the cards of a leg come to, and how far the cards can raise an amount: the laws that their functions cite.
 -- Assumes nothing.
-use Prim.Native.Nat.{ℕ, zero, suc, _+_, _-_, _*_, _≤_, _<_, zero-le, suc-le-suc}
-use mathlib.Core.Path.{_≡_, refl, sym, _∙_, ap, ap₂}
+use Prim.Native.Nat.{ℕ, suc, _+_, _-_, _*_, _≤_, _<_, zero-le}
+use mathlib.Core.Path.{_≡_, refl, sym, _∙_, ap}
 use mathlib.Core.Bool.{Bool, true, false, cond, not}
-use mathlib.Core.List.{List, [], _∷_, _++_, map, flatMap, append-nil, append-assoc}
+use mathlib.Core.List.{List, [], _∷_, _++_, map, append-assoc}
 use native.Mathlib.Nat.{le-trans, le-refl, zero-add}
 use native.Mathlib.Numerals.{add-one}
 use native.Mathlib.Omega.{arith}
-use lib.Dec.{leb, ltb}
+use lib.Dec.{ltb}
 use lib.ListN.{length, getD, take, drop, set, replicate, length-map, length-append, length-replicate, length-take, length-drop, drop-of-length-le}
 use lib.Seq.{drop-cons, take-append-seam, drop-append-add, set-at, getD-at, getD-take}
-use borrow.Author.Tests.{leb-true, leb-false, le-leb, lt-ltb, le-ltb}
+use borrow.Author.Tests.{leb-true, le-leb, lt-ltb, le-ltb}
 use Rattle.common.specs.Lists.{every, only}
-use Rattle.common.specs.Rising.{insert, insertAll, rising}
+use Rattle.common.specs.Rising.{insert, insertAll}
 use Rattle.common.proofs.Lists.{every-at}
+use Rattle.common.proofs.Only.{only-few}
 use Rattle.common.proofs.Sums.{map-at}
-use Rattle.common.proofs.Rising.{all-map, all-length, all-every, insert-length}
+use Rattle.common.proofs.Rising.{all-map, all-length, insert-length}
 use Rattle.bundle.specs.Helpers.{bodyAt}
 use Rattle.fares.specs.Reductions.{cardGrants, reduceBy, reduceAll}
-use Rattle.fares.specs.Cards.{isTogether, isAlone, rankOf, togetherOf, afterAll, ifAny, choicesOf, lesser, leastFrom, leastOr, afterCards}
+use Rattle.fares.specs.Cards.{isTogether, isAlone, rankOf, togetherOf, afterAll, ifAny, lesser, leastFrom, leastOr, afterCards}
 use Rattle.fares.specs.Helpers.{padded, placesIn, bodiesAt, stepOf, rankIn, grantOf, noStep, rowBy, stepsIn, factorFits, aloneFrom}
 use Rattle.fares.specs.declared.records.Cards.{Cards}
 use Rattle.fares.specs.declared.cards.Step.{Step}
 use Rattle.fares.specs.declared.cards.Row.{Row}
+use Rattle.fares.proofs.LeastLaws.{least-first}
 use Rattle.fares.proofs.StepLaws.{card-small, step-small, Granted, none, more, all-small}
 
 -- FOUR PLACES: what stands in front, one more behind it, and how many there are
@@ -211,25 +213,6 @@ unfolding only leastFrom
 alone-last amount least k ars l = rw (drop-of-length-le ars l)
 
 -- HOW FAR THE CARDS CAN RAISE AN AMOUNT
-least-first : (a : ℕ) (bs : List ℕ) → leastFrom a bs ≤ a
-unfolding leastFrom
-least-first a [] = le-refl a
-least-first a (b ∷ bs) = le-trans (least-first (lesser a b) bs) (go (leb a b) refl)
-  where
-    go : (t : Bool) → leb a b ≡ t → cond t a b ≤ a
-    go true e = le-refl a
-    go false e = omega (arith, leb-false a b e)
-
--- what is together, and what is alone, are not more than all
-only-few : (p : List ℕ → Bool) (ars : List (List ℕ)) → length (only p ars) ≤ length ars
-unfolding only
-only-few p [] = zero-le
-only-few p (ar ∷ ars) = go (p ar) (only-few p ars)
-  where
-    go : (b : Bool) → length (only p ars) ≤ length ars → length (cond b (ar ∷ only p ars) (only p ars)) ≤ suc (length ars)
-    go true h = suc-le-suc h
-    go false h = omega (arith, h)
-
 all-granted : (ars : List (List ℕ)) → Granted (map cardGrants ars)
 all-granted [] = none
 all-granted (ar ∷ ars) = more (card-small ar) (all-granted ars)

@@ -9,6 +9,7 @@ use native.Mathlib.Omega.{arith}
 use lib.ListN.{length, getD, length-map}
 use Rattle.common.specs.Lists.{only}
 use Rattle.common.proofs.Rising.{all-map}
+use Rattle.common.proofs.Only.{Stands, has-at, has-each, only-map}
 use Rattle.common.proofs.Sums.{map-at}
 use Rattle.layout.specs.Bytes.{byte-N}
 use Rattle.layout.specs.Layout.{AR}
@@ -22,7 +23,6 @@ use Rattle.fares.specs.declared.Leg.{Leg}
 use Rattle.fares.specs.declared.Question.{Question}
 use Rattle.fares.proofs.Grants.{Lawful, card-lawful}
 use Rattle.fares.proofs.LeastLaws.{least-below, least-one}
-use Rattle.fares.proofs.OnlyLaws.{Stands, has-at, has-each, only-map}
 use Rattle.fares.proofs.RecordMeaning.{reduced-by, reduced-only}
 use Rattle.fares.proofs.CardRecords.{applied, isWith, withOthers, onTheirOwn, order-only, keeps-AR, says-one, own-says, says-own, all-together}
 

@@ -1,20 +1,20 @@
 -- WHICH RECORDS APPLY: the AR records of the cards of a leg that are in force; those with Y in their order, which is the only one, and those with N.
 -- Assumes nothing.
-use Prim.Native.Nat.{ℕ, _≤_, _<_}
+use Prim.Native.Nat.{ℕ, _<_}
 use mathlib.Core.Path.{_≡_, refl, sym, _∙_}
 use mathlib.Core.Bool.{Bool, true, false, cond, not, _&&_, _||_, or-false}
 use mathlib.Core.List.{List, [], _∷_, _++_, flatMap}
 use mathlib.Core.Logic.{_⊎_, inl, inr, ⊎-elim}
 use native.Mathlib.Omega.{arith}
 use lib.Dec.{eqb}
-use lib.ListN.{length, getD, length-take}
+use lib.ListN.{getD}
 use borrow.Author.Tests.{eqb-true, eq-eqb, ne-eqb, not-true}
 use Rattle.common.specs.Lists.{every, any, only}
 use Rattle.common.specs.Rising.{rising, isRising}
 use Rattle.common.proofs.Tests.{never, both-true, order}
 use Rattle.common.proofs.Lists.{any-at, at-any, first-length, first-at}
-use Rattle.common.proofs.Digits.{number-small}
-use Rattle.common.proofs.Rising.{all-any, other, allOther, rises, rising-at, at-rising, rising-only}
+use Rattle.common.proofs.Rising.{has, all-any, other, allOther, rises, rising-at, at-rising, rising-only}
+use Rattle.common.proofs.Only.{has-at, at-has, has-each, has-only, every-has, any-flat, other-only}
 use Rattle.layout.specs.Bytes.{byte-N, byte-Y}
 use Rattle.layout.specs.Layout.{CO, AR, tableAt, tables}
 use Rattle.layout.specs.Fields.{rowWith, rowOf, bytesOf, byteOf, numberIn, isYes, ofOffers, dayRow, firstDay, lastDay}
@@ -33,8 +33,8 @@ use Rattle.fares.specs.Legs.{wantedFor, found, cardFor, cardsFor, applie
 use Rattle.fares.specs.Meaning.{cardAt, CardsDiffer, InForce, Rises, IsCard, Applies, AppliesWith, AllTogether}
 use Rattle.fares.specs.declared.Leg.{Leg}
 use Rattle.fares.specs.declared.Question.{Question}
+use Rattle.fares.proofs.StepLaws.{code-small}
 use Rattle.fares.proofs.CardSlots.{means-differ}
-use Rattle.fares.proofs.OnlyLaws.{has, has-at, at-has, has-each, has-only, every-has, any-flat, other-only}
 use Rattle.fares.proofs.RecordMeaning.{to-force, from-force}
 
 -- AN AR: its days are two of its fields,
@@ -46,14 +46,7 @@ card-legs : forLegs AR ≡ true
 unfolding forLegs ofOffers any every tableAt tables
 card-legs = refl
 
--- its code has three digits,
-code-small : (body : List ℕ) → numberIn AR 4 body ≤ 999
-unfolding numberIn bytesOf rowOf rowWith tableAt tables
-code-small body =
-    let l : length (bytesOf AR 4 body) ≤ 3 = rw length-take (omega arith) in
-    omega (arith, number-small (bytesOf AR 4 body) 3 l)
-
--- and its flag is Y or N: by the rules what is not together is alone
+-- its flag is Y or N: by the rules what is not together is alone
 is-together : (body : List ℕ) → isTogether body ≡ eqb (byteOf AR 6 body) byte-Y
 unfolding isYes rowOf rowWith tableAt tables
 is-together body = refl

@@ -11,7 +11,7 @@ use lib.Dec.{eqb, leb}
 use lib.ListN.{length, getD, drop, drop-of-length-le}
 use lib.Seq.{drop-cons}
 use borrow.Author.Tests.{eqb-true, eq-eqb, leb-true, le-leb, not-true}
-use Rattle.common.specs.Lists.{every, any, only, firstOf}
+use Rattle.common.specs.Lists.{every, any, only}
 use Rattle.common.proofs.Tests.{never, both-true, refuted}
 use Rattle.common.proofs.Lists.{any-at, at-any, first-length, first-at}
 use Rattle.fares.specs.Question.{isGiven, cardSlots, cardsInLimits, cardsDiffer}
@@ -163,12 +163,3 @@ module _ (cs : List ℕ) (k : ℕ) (l : k < length cs) where
 -- and behind the last slot
 pub none-behind : (cs : List ℕ) (k : ℕ) → length cs ≤ k → drop k cs ≡ []
 none-behind cs k l = drop-of-length-le cs l
-
-pub few-given : (cs : List ℕ) → length (only isGiven cs) ≤ length cs
-unfolding only
-few-given [] = zero-le
-few-given (c ∷ cs) = go (isGiven c) (few-given cs)
-  where
-    go : (b : Bool) → length (only isGiven cs) ≤ length cs → length (cond b (c ∷ only isGiven cs) (only isGiven cs)) ≤ suc (length cs)
-    go true h = suc-le-suc h
-    go false h = omega (arith, h)

@@ -20,22 +20,22 @@ lesser-is a b = go (leb a b) refl
     go true e = (le-refl a, leb-true a b e, inl refl)
     go false e = (omega (arith, leb-false a b e), le-refl b, inr refl)
 
+-- from a first amount on: not above it,
+pub least-first : (a : ℕ) (bs : List ℕ) → leastFrom a bs ≤ a
+unfolding leastFrom
+least-first a [] = le-refl a
+least-first a (b ∷ bs) = le-trans (least-first (lesser a b) bs) (lesser-is a b .0)
+
 -- the amounts by the places of what they are amounts of
 module _ {A : Type 0} (f : A → ℕ) (d : A) where
   abbrev At : List A → ℕ → Type 0
   At xs x = (k : ℕ) × (k < length xs) × (x ≡ f (getD xs k d))
 
-  -- from a first amount on: not above it,
-  from-first : (a : ℕ) (xs : List A) → leastFrom a (map f xs) ≤ a
-  unfolding leastFrom
-  from-first a [] = le-refl a
-  from-first a (x ∷ xs) = le-trans (from-first (lesser a (f x)) xs) (lesser-is a (f x) .0)
-
   -- nor above any further one,
   from-each : (a : ℕ) (xs : List A) (k : ℕ) → k < length xs → leastFrom a (map f xs) ≤ f (getD xs k d)
   unfolding leastFrom
   from-each a [] k l = absurd (not-suc-le-zero l)
-  from-each a (x ∷ xs) zero l = le-trans (from-first (lesser a (f x)) xs) (lesser-is a (f x) .1)
+  from-each a (x ∷ xs) zero l = le-trans (least-first (lesser a (f x)) (map f xs)) (lesser-is a (f x) .1)
   from-each a (x ∷ xs) (suc k) l = from-each (lesser a (f x)) xs k (le-of-suc-le-suc l)
 
   -- and one of them
@@ -49,7 +49,7 @@ module _ {A : Type 0} (f : A → ℕ) (d : A) where
   -- THE LEAST is not above any,
   pub least-below : (stands : ℕ) (xs : List A) (k : ℕ) → k < length xs → leastOr stands (map f xs) ≤ f (getD xs k d)
   least-below stands [] k l = absurd (not-suc-le-zero l)
-  least-below stands (x ∷ xs) zero l = from-first (f x) xs
+  least-below stands (x ∷ xs) zero l = least-first (f x) (map f xs)
   least-below stands (x ∷ xs) (suc k) l = from-each (f x) xs k (le-of-suc-le-suc l)
 
   -- and is one of them; where there are none, what stands

@@ -1,24 +1,24 @@
 -- What a leg's records and checks come to: the laws that the functions over a leg cite.
 -- Assumes nothing.
-use Prim.Native.Nat.{ℕ, _+_, _*_, _≤_, _<_, zero-le, suc-le-suc}
+use Prim.Native.Nat.{ℕ, _+_, _≤_, _<_, zero-le, suc-le-suc}
 use mathlib.Core.Path.{_≡_, refl, sym, _∙_, ap, ap₂}
-use mathlib.Core.Bool.{Bool, true, false, cond, not}
+use mathlib.Core.Bool.{Bool, true, false, cond}
 use mathlib.Core.Logic.{_⊎_, ⊎-elim}
 use mathlib.Core.List.{List, [], _∷_, _++_, map, flatMap, append-nil, append-assoc}
 use native.Mathlib.Nat.{le-trans}
 use native.Mathlib.Numerals.{add-one}
 use native.Mathlib.Omega.{arith}
-use lib.Dec.{eqb}
 use lib.ListN.{length, getD, drop, set, replicate, length-map, length-append, drop-of-length-le}
 use lib.Seq.{drop-cons}
 use Rattle.common.specs.Lists.{only}
 use Rattle.common.specs.Checks.{refuse, fault, firstFault}
+use Rattle.common.proofs.Only.{only-few}
 use Rattle.common.proofs.Lists.{first-length, first-at}
 use Rattle.layout.specs.Layout.{CO, AR, tableAt, tables}
 use Rattle.layout.specs.Fields.{rowWith, rowOf, byteOf, isYes}
 use Rattle.bundle.specs.Records.{Rec, noRec, recordsOf}
 use Rattle.bundle.specs.Choice.{choiceOf}
-use Rattle.bundle.specs.Helpers.{bodyAt, atPlace}
+use Rattle.bundle.specs.Helpers.{atPlace}
 use Rattle.bundle.specs.declared.choice.Choice.{Choice}
 use Rattle.bundle.specs.declared.choice.Choice.the-variants.{At, NotThatDay, Nothing}
 use Rattle.bundle.proofs.Here.{at-place}
@@ -32,7 +32,6 @@ use Rattle.fares.specs.declared.Leg.{Leg}
 use Rattle.fares.specs.declared.Question.{Question}
 use Rattle.fares.specs.declared.records.Cards.{Cards}
 use Rattle.fares.proofs.StepLaws.{conditions-small, step-small, greater-is, bound-grows, part-small}
-use Rattle.fares.proofs.CardSlots.{few-given}
 use Rattle.fares.proofs.CardLaws.{padded-front, padded-next, after-small}
 
 -- four cards have the greatest bound
@@ -40,7 +39,7 @@ abbrev pub mostBound : ℕ
 mostBound = partBound 4
 
 few-cards : (q : Question) → length (cardsOf q) ≤ 4
-few-cards q = omega (arith, few-given (cardSlots q), first-length 0 4 (q .cards))
+few-cards q = omega (arith, only-few isGiven (cardSlots q), first-length 0 4 (q .cards))
 
 pub bound-most : (q : Question) → partBound (length (cardsOf q)) ≤ mostBound
 bound-most q = bound-grows (length (cardsOf q)) 4 (few-cards q)

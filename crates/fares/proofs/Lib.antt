@@ -3,9 +3,8 @@ pub mod Grants
 pub mod Fit
 pub mod RoundLaws
 pub mod StepLaws
-pub mod CardLaws
 pub mod LeastLaws
-pub mod OnlyLaws
+pub mod CardLaws
 pub mod RecordMeaning
 pub mod CardRecords
 pub mod CardMeaning

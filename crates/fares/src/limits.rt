@@ -1,11 +1,10 @@
 // The limits of a question.
 ghost use mathlib.Core.Path.{_≡_};
-ghost use mathlib.Core.Bool.{Bool};
 ghost use Prim.Native.Nat.{_≤_};
 ghost use lib.Dec.{eqb};
 ghost use lib.ListN.{length, drop};
-ghost use Rattle.common.specs.Lists.{every, any, only, firstOf};
-ghost use Rattle.fares.specs.Question.{between, noLeg, legInLimits, cardSlots, isGiven, cardsOf, cardsInLimits, cardsDiffer, inLimits};
+ghost use Rattle.common.specs.Lists.{every, any, firstOf};
+ghost use Rattle.fares.specs.Question.{between, noLeg, legInLimits, cardSlots, cardsOf, cardsInLimits, cardsDiffer, inLimits};
 ghost use Rattle.fares.specs.Reductions.{partBound};
 use super::Leg;
 use super::Question;

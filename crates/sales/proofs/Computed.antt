@@ -2,10 +2,11 @@
 -- Assumes nothing.
 use Prim.Native.Nat.{ℕ}
 use mathlib.Core.Path.{_≡_, refl, _∙_, ap}
-use mathlib.Core.List.{List, [], _∷_}
+use mathlib.Core.List.{List, [], _∷_, flatMap}
 use native.Mathlib.Omega.{arith}
 use Rattle.common.specs.Least.{least}
-use Rattle.common.specs.Lists.{every, any, same, sum, firstOf, upTo}
+use Rattle.common.specs.Lists.{every, any, only, same, sum, firstOf, upTo}
+use Rattle.common.specs.Rising.{insert, insertAll}
 use Rattle.common.specs.Digits.{digitsAfter, numberOf}
 use Rattle.common.specs.Checks.{firstFault, eachFrom}
 use Rattle.layout.specs.Company.{isCompany, isAllRailways, isTransferor, companyOf, isRailway}
@@ -23,7 +24,8 @@ use Rattle.bundle.specs.Verdict.{firstPass, secondPass, checks}
 use Rattle.fares.specs.Question.{cardsInLimits, cardsDiffer, inLimits}
 use Rattle.fares.specs.Rounding.{rounded, upwards, downwards, nearest}
 use Rattle.fares.specs.Reductions.{reduceBy, reduceAll}
-use Rattle.fares.specs.Legs.{chosen, personsFit, unread, firstSet, partBy}
+use Rattle.fares.specs.Cards.{leastFrom, afterCards}
+use Rattle.fares.specs.Legs.{cardsFor, personsFit, unread, firstSet, partBy}
 use Rattle.fares.specs.Fare.{partsOf, priceChecks, fareChecks, fareOf}
 use Rattle.book.specs.Due.{dueFrom, carriedBy, anyLeg}
 use Rattle.book.specs.SameQuestion.{SameQuestion}
@@ -38,7 +40,7 @@ use Rattle.sales.proofs.SentAgain.{told-first, cancel-told}
 
 -- THE FARE, computed
 priced-parts : (fareOf bundle asked .outcome ≡ Priced) × (fareOf bundle asked .parts ≡ parts) × (partsOf (recordsOf bundle) asked ≡ parts)
-unfolding least every any same sum firstOf digitsAfter numberOf firstFault eachFrom isCompany isAllRailways isTransferor companyOf isRailway isDay monthLength monthLengths lengthOf endOf tableAt tables rowWith rowOf bytesOf byteOf numberIn isYes transferorOf offerOf railwayOf codeOf codeFits sameKey dayRow hasPeriod firstDay lastDay holdsDay grantIn numberOrBlank mostPersons factorRule firstDayRule lastDayRule ruled keptBeside keepsRow firstBroken brokenField tableOf stepOf recordsFrom restFrom recordsOf restOf otherTransferor clash earlierOf linkRows isAsked railwayServes joins serves missingLink isOf choiceOf firstPass secondPass checks cardsInLimits cardsDiffer inLimits rounded upwards downwards nearest reduceBy reduceAll chosen personsFit unread firstSet partBy partsOf priceChecks fareChecks fareOf digits year conditions named card
+unfolding least every any only same sum firstOf digitsAfter numberOf firstFault eachFrom isCompany isAllRailways isTransferor companyOf isRailway isDay monthLength monthLengths lengthOf endOf tableAt tables rowWith rowOf bytesOf byteOf numberIn isYes transferorOf offerOf railwayOf codeOf codeFits sameKey dayRow hasPeriod firstDay lastDay holdsDay grantIn numberOrBlank mostPersons factorRule firstDayRule lastDayRule ruled keptBeside keepsRow firstBroken brokenField tableOf stepOf recordsFrom restFrom recordsOf restOf otherTransferor clash earlierOf linkRows isAsked railwayServes joins serves missingLink isOf choiceOf firstPass secondPass checks cardsInLimits cardsDiffer inLimits rounded upwards downwards nearest reduceBy reduceAll insert insertAll flatMap leastFrom afterCards cardsFor personsFit unread firstSet partBy partsOf priceChecks fareChecks fareOf digits year conditions named card
 priced-parts = (refl, refl, refl)
 
 -- WHAT IS OWED after some operations, computed from the fare
@@ -65,7 +67,7 @@ booked-first : saleAnswer (after emptyBook []) 1 1 bundle asked .outcome ≡ Boo
 booked-first = ap (λ r. r .outcome) first-booked
 
 pub the-day : Day
-unfolding cancelledIn owed books dueFrom upTo least every any same sum firstOf digitsAfter numberOf firstFault eachFrom isCompany isAllRailways isTransferor companyOf isRailway isDay monthLength monthLengths lengthOf endOf tableAt tables rowWith rowOf bytesOf byteOf numberIn isYes transferorOf offerOf railwayOf codeOf codeFits sameKey dayRow hasPeriod firstDay lastDay holdsDay grantIn numberOrBlank mostPersons factorRule firstDayRule lastDayRule ruled keptBeside keepsRow firstBroken brokenField tableOf stepOf recordsFrom restFrom recordsOf restOf otherTransferor clash earlierOf linkRows isAsked railwayServes joins serves missingLink isOf choiceOf firstPass secondPass checks cardsInLimits cardsDiffer inLimits rounded upwards downwards nearest reduceBy reduceAll chosen personsFit unread firstSet partBy partsOf priceChecks fareChecks fareOf digits year conditions named card
+unfolding cancelledIn owed books dueFrom upTo least every any same sum firstOf digitsAfter numberOf firstFault eachFrom isCompany isAllRailways isTransferor companyOf isRailway isDay monthLength monthLengths lengthOf endOf tableAt tables rowWith rowOf bytesOf byteOf numberIn isYes transferorOf offerOf railwayOf codeOf codeFits sameKey dayRow hasPeriod firstDay lastDay holdsDay grantIn numberOrBlank mostPersons factorRule firstDayRule lastDayRule ruled keptBeside keepsRow firstBroken brokenField tableOf stepOf recordsFrom restFrom recordsOf restOf otherTransferor clash earlierOf linkRows isAsked railwayServes joins serves missingLink isOf choiceOf firstPass secondPass checks cardsInLimits cardsDiffer inLimits rounded upwards downwards nearest reduceBy reduceAll insert insertAll flatMap leastFrom afterCards cardsFor personsFit unread firstSet partBy partsOf priceChecks fareChecks fareOf digits year conditions named card
 the-day =
     record {
       sale-first = first-booked;

@@ -5,7 +5,6 @@ use mathlib.Core.Path.{_≡_, refl, sym, _∙_}
 use mathlib.Core.List.{map}
 use native.Mathlib.Omega.{arith}
 use lib.ListN.{drop, getD}
-use borrow.Author.Needs.{needs}
 use Rattle.fares.specs.Reductions.{reduceAll}
 use Rattle.fares.specs.Helpers.{grantOf, noStep, stepsIn}
 use Rattle.fares.proofs.StepLaws.{step-small}

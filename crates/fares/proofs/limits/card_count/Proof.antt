@@ -1,7 +1,7 @@
 -- `fares::limits::card_count` meets its contract. The loop's invariant: what is counted, and the cards in the slots that are left.
 -- Assumes nothing.
 use Prim.Native.Nat.{suc, _≤_, _-_, _+_}
-use mathlib.Core.Path.{_≡_, refl, sym, _∙_}
+use mathlib.Core.Path.{_≡_, _∙_}
 use mathlib.Core.Bool.{cond}
 use mathlib.Core.Logic.{⊎-elim}
 use native.Mathlib.Nat.{zero-add}

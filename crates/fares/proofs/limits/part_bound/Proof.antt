@@ -4,16 +4,16 @@ use Prim.Native.Nat.{_≤_}
 use native.Mathlib.Omega.{arith}
 use borrow.Author.Tests.{le-leb, lt-leb}
 use borrow.Author.Needs.{needs}
+use Rattle.common.proofs.Only.{only-few}
 use Rattle.common.proofs.Lists.{first-length}
-use Rattle.fares.specs.Question.{cardSlots}
-use Rattle.fares.proofs.CardSlots.{few-given}
+use Rattle.fares.specs.Question.{cardSlots, isGiven}
 use Rattle.fares.proofs.limits.part_bound.Statement.{statement}
 use Rattle.fares.proofs.limits.part_bound.Tie as tie
 
 few : (c : tie.After-card-count) → c .card-count .result ≤ 4
 few c =
     let q = c .before .args .q in
-    omega (arith, c .card-count .ensures, few-given (cardSlots q), first-length 0 4 (q .cards))
+    omega (arith, c .card-count .ensures, only-few isGiven (cardSlots q), first-length 0 4 (q .cards))
 
 pub part-bound-spec : {M : Type 1} → statement M
 part-bound-spec =

@@ -1,7 +1,7 @@
 -- `fares::records::choose` meets its contract.
 -- Assumes nothing.
 use mathlib.Core.Path.{_≡_, sym, _∙_, ap}
-use mathlib.Core.List.{[], map}
+use mathlib.Core.List.{map}
 use borrow.Author.Needs.{needs}
 use Rattle.common.proofs.Tests.{fails, holds}
 use Rattle.bundle.specs.Records.{recordsOf}

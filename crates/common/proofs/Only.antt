@@ -1,23 +1,21 @@
 -- Laws of what stands in a list: among the elements that pass, and in lists one behind the other.
 -- Assumes nothing.
-use Prim.Native.Nat.{ℕ, _<_}
+use Prim.Native.Nat.{ℕ, suc, _≤_, _<_, zero-le, suc-le-suc}
 use mathlib.Core.Path.{_≡_, refl, sym, _∙_, ap}
 use mathlib.Core.Bool.{Bool, true, false, cond, _&&_, _||_, and-false, or-assoc}
 use mathlib.Core.List.{List, [], _∷_, _++_, map, flatMap}
+use native.Mathlib.Omega.{arith}
 use lib.Dec.{eqb}
 use lib.ListN.{length, getD}
 use borrow.Author.Tests.{eq-eqb, eqb-true}
 use Rattle.common.specs.Lists.{every, any, only}
 use Rattle.common.proofs.Tests.{both-true}
 use Rattle.common.proofs.Lists.{every-by, any-at, at-any}
-use Rattle.common.proofs.Rising.{other, allOther}
+use Rattle.common.proofs.Rising.{has, other, allOther}
 
--- an element stands in a list, at a place of it; and of a number, by a test
+-- an element stands in a list, at a place of it
 abbrev pub Stands : {A : Type 0} → A → List A → A → Type 0
 Stands d xs x = (k : ℕ) × (k < length xs) × (getD xs k d ≡ x)
-
-abbrev pub has : ℕ → List ℕ → Bool
-has i xs = any (eqb i) xs
 
 pub has-at : (i : ℕ) (xs : List ℕ) → has i xs ≡ true → Stands 0 xs i
 has-at i xs h = let a = any-at (eqb i) 0 xs h in (a .0, a .1, sym (eqb-true i (getD xs (a .0) 0) (a .2)))
@@ -27,6 +25,16 @@ at-has i xs a = at-any (eqb i) 0 xs (a .0) (a .1) (eq-eqb i (getD xs (a .0) 0) (
 
 pub has-each : (xs : List ℕ) (k : ℕ) → k < length xs → has (getD xs k 0) xs ≡ true
 has-each xs k l = at-has (getD xs k 0) xs (k, l, refl)
+
+-- those that pass are not more than all
+pub only-few : {A : Type 0} (p : A → Bool) (xs : List A) → length (only p xs) ≤ length xs
+unfolding only
+only-few p [] = zero-le
+only-few p (x ∷ xs) = go (p x) (only-few p xs)
+  where
+    go : (b : Bool) → length (only p xs) ≤ length xs → length (cond b (x ∷ only p xs) (only p xs)) ≤ suc (length xs)
+    go true h = suc-le-suc h
+    go false h = omega (arith, h)
 
 -- what passes by another name
 pub only-map : {A B : Type 0} (f : A → B) (p : B → Bool) (xs : List A) → only p (map f xs) ≡ map f (only (λ x. p (f x)) xs)
