@@ -18,8 +18,8 @@ enum statement { BEGIN, COMMIT, ADD_SALE, ADD_PART, FIND_SALE, FIND_PARTS, CANCE
 static const char *const TEXTS[STATEMENTS] = {
     [BEGIN] = "BEGIN",
     [COMMIT] = "COMMIT",
-    [ADD_SALE] = "INSERT OR IGNORE INTO sales (till, sequence, offer, day, persons, card_1, card_2, card_3, card_4)"
-                 " VALUES (?, ?, ?, ?, ?, ?, ?, ?, ?)",
+    [ADD_SALE] = ("INSERT OR IGNORE INTO sales (till, sequence, offer, day, persons, card_1, card_2, card_3, card_4)"
+                  " VALUES (?, ?, ?, ?, ?, ?, ?, ?, ?)"),
     [ADD_PART] = "INSERT INTO parts (sale, leg, railway, fare, amount) VALUES (?, ?, ?, ?, ?)",
     [FIND_SALE] = "SELECT id, cancelled FROM sales WHERE till = ? AND sequence = ?",
     [FIND_PARTS] = "SELECT leg, amount FROM parts WHERE sale = ?",
