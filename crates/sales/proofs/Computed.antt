@@ -67,7 +67,7 @@ booked-first : saleAnswer (after emptyBook []) 1 1 bundle asked .outcome ≡ Boo
 booked-first = ap (λ r. r .outcome) first-booked
 
 pub the-day : Day
-unfolding cancelledIn owed books dueFrom upTo least every any same sum firstOf digitsAfter numberOf firstFault eachFrom isCompany isAllRailways isTransferor companyOf isRailway isDay monthLength monthLengths lengthOf endOf tableAt tables rowWith rowOf bytesOf byteOf numberIn isYes transferorOf offerOf railwayOf codeOf codeFits sameKey dayRow hasPeriod firstDay lastDay holdsDay grantIn numberOrBlank mostPersons factorRule firstDayRule lastDayRule ruled keptBeside keepsRow firstBroken brokenField tableOf stepOf recordsFrom restFrom recordsOf restOf otherTransferor clash earlierOf linkRows isAsked railwayServes joins serves missingLink isOf choiceOf firstPass secondPass checks cardsInLimits cardsDiffer inLimits rounded upwards downwards nearest reduceBy reduceAll insert insertAll flatMap leastFrom afterCards cardsFor personsFit unread firstSet partBy partsOf priceChecks fareChecks fareOf digits year conditions named card
+unfolding cancelledIn owed books dueFrom upTo least every any only same sum firstOf digitsAfter numberOf firstFault eachFrom isCompany isAllRailways isTransferor companyOf isRailway isDay monthLength monthLengths lengthOf endOf tableAt tables rowWith rowOf bytesOf byteOf numberIn isYes transferorOf offerOf railwayOf codeOf codeFits sameKey dayRow hasPeriod firstDay lastDay holdsDay grantIn numberOrBlank mostPersons factorRule firstDayRule lastDayRule ruled keptBeside keepsRow firstBroken brokenField tableOf stepOf recordsFrom restFrom recordsOf restOf otherTransferor clash earlierOf linkRows isAsked railwayServes joins serves missingLink isOf choiceOf firstPass secondPass checks cardsInLimits cardsDiffer inLimits rounded upwards downwards nearest reduceBy reduceAll insert insertAll flatMap leastFrom afterCards cardsFor personsFit unread firstSet partBy partsOf priceChecks fareChecks fareOf digits year conditions named card
 the-day =
     record {
       sale-first = first-booked;
