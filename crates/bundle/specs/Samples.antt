@@ -40,9 +40,12 @@ cardName = named 7
 unfoldable pub memo : ℕ → List ℕ
 memo railway = byte-M ∷ byte-E ∷ (digits 4 1185 ++ (digits 5 42 ++ (digits 4 railway ++ (text 1200 ++ year))))
 
--- an AR of card 7 for all railways: discount, rounding, factor
-unfoldable pub card : ℕ → ℕ → ℕ → List ℕ
-card discount rounding factor =
+-- an AR for all railways: its code, whether it is applied with others, its rating, discount, rounding and factor; and of card 7, with others
+unfoldable pub cardWith : ℕ → ℕ → ℕ → ℕ → ℕ → ℕ → List ℕ
+cardWith code with-others rating discount rounding factor =
     byte-A ∷ byte-R ∷
-    (digits 4 1185 ++ (digits 5 42 ++ (digits 4 0 ++ (digits 3 7 ++ (digits 6 discount ++
-    (byte-Y ∷ (digits 3 1 ++ (byte-N ∷ rounding ∷ (digits 3 factor ++ year)))))))))
+    (digits 4 1185 ++ (digits 5 42 ++ (digits 4 0 ++ (digits 3 code ++ (digits 6 discount ++
+    (with-others ∷ (digits 3 rating ++ (byte-N ∷ rounding ∷ (digits 3 factor ++ year)))))))))
+
+abbrev pub card : ℕ → ℕ → ℕ → List ℕ
+card discount rounding factor = cardWith 7 byte-Y 1 discount rounding factor

@@ -5,19 +5,24 @@ use mathlib.Core.Path.{_≡_}
 use mathlib.Core.Bool.{true, false}
 use mathlib.Core.List.{List, [], _∷_, _++_}
 use Rattle.common.specs.Lists.{firstOf}
+use Rattle.common.specs.Checks.{refuse}
 use Rattle.layout.specs.Bytes.{byte-plus, byte-minus, byte-0, byte-N, byte-Y}
 use Rattle.layout.specs.Dates.{isDay}
 use Rattle.fares.specs.Rounding.{unit}
-use Rattle.fares.specs.Fare.{fareOf}
-use Rattle.bundle.specs.Samples.{grant, conditions, cardName, card}
+use Rattle.fares.specs.Reductions.{partBound}
+use Rattle.fares.specs.Fare.{noFare, fareOf}
+use Rattle.bundle.specs.Samples.{grant, conditions, named, cardName, cardWith, card}
 use Rattle.fares.specs.Samples.{leg, ticket}
 use Rattle.fares.specs.declared.Question.{Question}
 use Rattle.fares.specs.declared.Pricing.the-variants.{Priced}
 
--- a plain fare at a discount is so many hundred-thousandths of a cent; a question has this fare and these parts, by a bundle; a number YYYYMMDD is a day, or is none
+-- a plain fare at a discount is so many hundred-thousandths of a cent; a question has this fare and these parts, by a bundle, or is refused by this number;
+-- a part by so many cards is at most this; a number YYYYMMDD is a day, or is none
 pub data Figure : Type 0 where
   exact : (fare discount amount : ℕ) → Figure
   asked : (bundle : List ℕ) → Question → (fare : ℕ) (parts : List ℕ) → Figure
+  turned-away : (bundle : List ℕ) → Question → (number : ℕ) → Figure
+  bound : (cards cents : ℕ) → Figure
   day : ℕ → Figure
   no-day : ℕ → Figure
 
@@ -25,12 +30,18 @@ pub data Figure : Type 0 where
 abbrev pub Says : Figure → Type 0
 Says (exact fare discount amount) = fare * (unit - discount) ≡ amount
 Says (asked bundle q fare parts) = fareOf bundle q ≡ record { outcome = Priced; fare = fare; parts = firstOf 0 8 parts }
+Says (turned-away bundle q number) = fareOf bundle q ≡ noFare (refuse number 0 0)
+Says (bound cards cents) = partBound cards ≡ cents
 Says (day d) = isDay d ≡ true
 Says (no-day d) = isDay d ≡ false
 
 -- one person on one leg, by one CO for all railways: plain fare, discount, rounding, factor, and the fare
 abbrev pub alone : ℕ → ℕ → ℕ → ℕ → ℕ → Figure
 alone fare discount rounding factor cents = asked (conditions 0 byte-N (grant discount rounding factor)) (ticket 1 [] 1 (leg 1185 fare ∷ [])) cents (cents ∷ [])
+
+-- one person on one leg, by one CO that takes nothing, with these records of cards 5 and 7, asked with these cards
+abbrev pub cards : ℕ → List ℕ → List ℕ → ℕ → Figure
+cards fare records asks cents = asked (conditions 0 byte-Y (grant 0 byte-N 0) ++ (named 5 ++ (named 7 ++ records))) (ticket 1 asks 1 (leg 1185 fare ∷ [])) cents (cents ∷ [])
 
 abbrev pub figures : List Figure
 figures =
@@ -58,6 +69,27 @@ figures =
     -- two railways, one with a CO of its own beside that of 0000, which is a default only
     asked (conditions 1185 byte-N (grant 25000 byte-N 0) ++ conditions 0 byte-N (grant 0 byte-N 0)) (ticket 3 [] 2 (leg 1185 1010 ∷ leg 1181 500 ∷ [])) 3774 (2274 ∷ 1500 ∷ []) ∷
     asked (conditions 1185 byte-N (grant 25000 byte-N 0) ++ conditions 0 byte-N (grant 50000 byte-N 0)) (ticket 1 [] 1 (leg 1185 1010 ∷ [])) 758 (758 ∷ []) ∷
+    -- Y together in rising rating, at equal rating in rising code, whatever the order of the cards: half up to 50, then a quarter down to 100, or the other way
+    cards 134 (cardWith 5 byte-Y 1 50000 byte-plus 50 ++ cardWith 7 byte-Y 2 25000 byte-minus 100) (5 ∷ 7 ∷ []) 0 ∷
+    cards 134 (cardWith 5 byte-Y 2 50000 byte-plus 50 ++ cardWith 7 byte-Y 1 25000 byte-minus 100) (5 ∷ 7 ∷ []) 50 ∷
+    cards 134 (cardWith 5 byte-Y 1 50000 byte-plus 50 ++ cardWith 7 byte-Y 1 25000 byte-minus 100) (7 ∷ 5 ∷ []) 0 ∷
+    cards 134 (cardWith 7 byte-Y 1 50000 byte-plus 50 ++ cardWith 5 byte-Y 1 25000 byte-minus 100) (7 ∷ 5 ∷ []) 50 ∷
+    -- N alone, from the amount after CO: it takes 30 % of 1000, or the two with Y leave less, or the second N does
+    cards 1000 (cardWith 5 byte-Y 1 10000 byte-N 0 ++ cardWith 7 byte-N 1 30000 byte-N 0) (5 ∷ 7 ∷ []) 700 ∷
+    cards 1000 (cardWith 5 byte-Y 1 30000 byte-N 0 ++ cardWith 7 byte-N 1 10000 byte-N 0) (5 ∷ 7 ∷ []) 700 ∷
+    cards 1000 (cardWith 5 byte-N 1 10000 byte-N 0 ++ cardWith 7 byte-N 1 30000 byte-N 0) (5 ∷ 7 ∷ []) 700 ∷
+    -- not tried: a part of the Y records, which would leave 1, and no card, which would leave 100
+    cards 1 (cardWith 5 byte-Y 1 50000 byte-N 0 ++ cardWith 7 byte-Y 2 1000 byte-plus 500) (5 ∷ 7 ∷ []) 500 ∷
+    cards 100 (cardWith 5 byte-Y 1 0 byte-plus 998) (5 ∷ []) 998 ∷
+    -- a card twice; behind a slot that is not used; of four digits
+    turned-away [] (ticket 1 (7 ∷ 7 ∷ []) 1 (leg 1185 1010 ∷ [])) 17 ∷
+    turned-away [] (ticket 1 (0 ∷ 7 ∷ []) 1 (leg 1185 1010 ∷ [])) 11 ∷
+    turned-away [] (ticket 1 (1000 ∷ 1000 ∷ []) 1 (leg 1185 1010 ∷ [])) 11 ∷
+    bound 0 99197505 ∷
+    bound 1 99197505 ∷
+    bound 2 99296307 ∷
+    bound 3 99395109 ∷
+    bound 4 99493911 ∷
     day 20240229 ∷
     day 20000229 ∷
     no-day 20230229 ∷
