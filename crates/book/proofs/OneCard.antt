@@ -7,8 +7,9 @@ use mathlib.Core.List.{List, [], _∷_}
 use native.Mathlib.Omega.{arith}
 use lib.ListN.{length, getD}
 use Rattle.common.specs.Lists.{every, same, upTo}
-use Rattle.common.proofs.Lists.{every-at, same-is}
+use Rattle.common.proofs.Lists.{every-at, same-is, upto-at}
 use Rattle.common.proofs.Tests.{both-true}
+use Rattle.fares.specs.Meaning.{cardAt}
 use Rattle.fares.specs.OneCard.{OneCard, baseInLimits}
 use Rattle.fares.specs.declared.Question.{Question}
 use Rattle.fares.proofs.OneCard.{limits-are, cards-differ, bound-is}
@@ -16,15 +17,19 @@ use Rattle.book.specs.Words.{Entry, noEntry, cardsAt, cardsWidth, questi
 use Rattle.book.specs.Sound.{entrySound, soundWords}
 use Rattle.book.specs.Meaning.{Sound}
 use Rattle.book.specs.OneCard.{OneCardBook, baseWords, baseAsked, baseEntry, baseSound}
+use Rattle.book.proofs.QuestionWords.{said}
 use Rattle.book.proofs.QuestionPlaces.{zeros}
 use Rattle.book.proofs.EntryWords.{asked-at, card-at}
 use Rattle.book.proofs.SoundBook.{entry-is, entries-length}
 use Rattle.book.proofs.BookMeaning.{sound-means, means-sound}
 
--- A QUESTION has the base's words
+-- A QUESTION has the base's words, and as its words say it one card or none
 pub words-are : (q : Question) → OneCard q → questionWords q ≡ baseWords q
 unfolding questionWords baseWords upTo
 words-are q o = rw (o 1 (omega arith) (omega arith), o 2 (omega arith) (omega arith), o 3 (omega arith) (omega arith))
+
+pub said-one-card : (q : Question) → OneCard q → OneCard (questionOf (questionWords q))
+said-one-card q o k a l = ap (λ x. cardAt x k) (said q) ∙ (upto-at (cardAt q) cardsWidth k 0 l ∙ o k a l)
 
 -- AN ENTRY
 same-entry : (e : Entry) → OneCard (questionOf (e .asked)) → entrySound e ≡ baseEntry e
@@ -37,16 +42,25 @@ unfolding every
 every-alike p r d [] h = refl
 every-alike p r d (x ∷ xs) h = ap₂ _&&_ (h 0 (omega arith)) (every-alike p r d xs (λ i l. h (suc i) (omega arith)))
 
+-- entries whose questions have one card or none
+abbrev pub OneCardEach : List Entry → Type 0
+OneCardEach es = (i : ℕ) → i < length es → OneCard (questionOf (getD es i noEntry .asked))
+
 -- A BOOK
 module _ (book : List ℕ) where
-  module _ (o : OneCardBook book) where
-    one-card : (i : ℕ) → i < countOf book → OneCard (questionOf (entryAt book i .asked))
-    one-card i h k a l = card-at (entryWords book i) k l ∙ o i h k a l
+  pub one-card-each : OneCardBook book → OneCardEach (entries book)
+  one-card-each o i l k a m =
+      let h : i < countOf book = omega (arith, entries-length book) in
+      ap (λ (e : Entry). cardAt (questionOf (e .asked)) k) (entry-is book i h) ∙ (card-at (entryWords book i) k m ∙ o i h k a m)
 
+  pub one-card-book : OneCardEach (entries book) → OneCardBook book
+  one-card-book o i h k a m =
+      sym (card-at (entryWords book i) k m)
+      ∙ (ap (λ (e : Entry). cardAt (questionOf (e .asked)) k) (sym (entry-is book i h)) ∙ o i (omega (arith, entries-length book)) k a m)
+
+  module _ (o : OneCardBook book) where
     same-entries : every entrySound (entries book) ≡ every baseEntry (entries book)
-    same-entries =
-        every-alike entrySound baseEntry noEntry (entries book)
-        (λ i l. let h : i < countOf book = omega (arith, entries-length book) in rw (entry-is book i h) (same-entry (entryAt book i) (one-card i h)))
+    same-entries = every-alike entrySound baseEntry noEntry (entries book) (λ i l. same-entry (getD (entries book) i noEntry) (one-card-each o i l))
 
     pub same-sound : soundWords book ≡ baseSound book
     unfolding soundWords baseSound

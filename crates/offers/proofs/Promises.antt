@@ -67,7 +67,7 @@ use Rattle.book.proofs.TotalIsSum.{total-is-sum}
 use Rattle.book.proofs.OneCard.{base-means, means-base}
 use Rattle.sales.specs.Sales.{saleAnswer, saleWords, cancelAnswer, cancelWords}
 use Rattle.sales.specs.Balances.{balanceAnswer, totalAnswer}
-use Rattle.sales.specs.OneCard.{baseSale, baseSaleWords, baseCancel, baseCancelWords, baseBalance, baseTotal}
+use Rattle.sales.specs.OneCard.{OneCardOps, baseAfter, baseSale, baseSaleWords, baseCancel, baseCancelWords, baseBalance, baseTotal}
 use Rattle.sales.specs.History.{Number, Op, sale, emptyBook, after, cancelledIn, bookedBy, owed, isIn, isNumber}
 use Rattle.sales.proofs.BalanceIsOwed.{balance-told, total-told}
 use Rattle.sales.proofs.InAnyBook.{book-balance, no-railway, book-total, sale-without-number, cancel-without-number, same-sale, other-sale, known-cancel}
@@ -78,6 +78,7 @@ use Rattle.sales.proofs.Unsound.{unsound-sale, unsound-cancel, unsound-balance,
 use Rattle.sales.proofs.SentFirst.{always-meant, unknown-is-told, full-is-told, first-is-booked, first-is-refused}
 use Rattle.sales.proofs.SentAgain.{told-first, refused-other, nothing-changes, cancel-told}
 use Rattle.sales.proofs.OneCard.{same-sale as sold-as-it-was, same-sale-words, same-cancel, same-cancel-words, same-balance, same-total}
+use Rattle.sales.proofs.OneCardHistory.{same-after, empty-before}
 use Rattle.sales.proofs.AnswersByCase.{booked-parts, not-booked-stays, not-cancelled-stays}
 use Rattle.offers.specs.Answers.{Told, answers, refuses, verdictTells, pricingTells, fareTells, booked, alreadyBooked, cancelled, alreadyCancelled, outcomeTells, receiptTells, sumTells}
 use Rattle.offers.proofs.Orders.{told-accepted, told-refused, told-priced, told-no-fare, told-booked, booked-told, cancelled-told}
@@ -421,6 +422,13 @@ module _ (book : List ℕ) (stored : baseSound book ≡ true) where
 
   pub a-stored-book-owes-the-same-in-all : totalAnswer book ≡ baseTotal book
   a-stored-book-owes-the-same-in-all = same-total book (base-means book stored .1)
+
+  -- However many sales of one card or none, and cancellations, follow, it is word for word the book that they left. The empty book is such a book.
+  pub single-cards-leave-the-book-that-they-left : (ops : List Op) → OneCardOps ops → after book ops ≡ baseAfter book ops
+  single-cards-leave-the-book-that-they-left = same-after book stored
+
+pub the-empty-book-was-sound-before : baseSound emptyBook ≡ true
+the-empty-book-was-sound-before = empty-before
 
 -- THE DAY of one till that document 01 tells, call by call.
 pub the-day-of-one-till : Day

@@ -144,7 +144,7 @@ module _ (m : ℕ) (e : m ≡ bookLength) where
         clear = every-drop isZero zeros (startOf (countOf zeros)) (every-replicate isZero 0 refl m);
       }
 
-empty-entries : entries emptyBook ≡ []
+pub empty-entries : entries emptyBook ≡ []
 unfolding emptyBook
 empty-entries = zero-entries bookLength refl
 

@@ -7,3 +7,4 @@ pub mod SentFirst
 pub mod SentAgain
 pub mod Computed
 pub mod OneCard
+pub mod OneCardHistory

@@ -1,6 +1,6 @@
 pub mod Sales
 pub mod Balances
-pub mod OneCard
 pub mod History
+pub mod OneCard
 pub mod Helpers
 pub mod Figures

@@ -3,16 +3,17 @@
 -- Assumes nothing.
 use Prim.Native.Nat.{ℕ}
 use mathlib.Core.Bool.{cond}
-use mathlib.Core.List.{List}
+use mathlib.Core.List.{List, [], _∷_, List·Memᴰ}
 use Rattle.common.specs.Checks.{Check}
 use Rattle.bundle.specs.Records.{recordsOf}
-use Rattle.fares.specs.OneCard.{baseParts, baseChecks}
+use Rattle.fares.specs.OneCard.{OneCard, baseParts, baseChecks}
 use Rattle.fares.specs.declared.Question.{Question}
 use Rattle.book.specs.Words.{newEntry}
 use Rattle.book.specs.Changes.{added, cancelledAt}
 use Rattle.book.specs.OneCard.{baseWords, baseSound}
 use Rattle.sales.specs.Sales.{place, saleChecksBy, saleAnswerBy, isBookedBy, cancelChecksBy, cancelAnswerBy, isCancelledBy}
 use Rattle.sales.specs.Balances.{balanceChecksBy, balanceBy, totalChecksBy, totalBy}
+use Rattle.sales.specs.History.{Number, Op, sale, cancel}
 use Rattle.sales.specs.declared.Receipt.{Receipt}
 use Rattle.sales.specs.declared.Sum.{Sum}
 
@@ -35,6 +36,16 @@ module _ (book : List ℕ) (till sequence : ℕ) where
 
   unfoldable pub baseCancelWords : List ℕ
   baseCancelWords = cond (isCancelledBy book till sequence baseCancelChecks) (cancelledAt book (place book till sequence)) book
+
+-- the book after some operations
+unfoldable pub baseAfter : List ℕ → List Op → List ℕ
+baseAfter book [] = book
+baseAfter book (sale n bundle q ∷ ops) = baseAfter (baseSaleWords book (n .till) (n .sequence) bundle q) ops
+baseAfter book (cancel n ∷ ops) = baseAfter (baseCancelWords book (n .till) (n .sequence)) ops
+
+-- each sale among the operations has one card or none
+abbrev pub OneCardOps : List Op → Type 0
+OneCardOps ops = (n : Number) (bundle : List ℕ) (q : Question) → List·Memᴰ (sale n bundle q) ops → OneCard q
 
 unfoldable pub baseBalance : List ℕ → ℕ → Sum
 baseBalance book railway = balanceBy (balanceChecksBy (baseSound book) railway) book railway
