@@ -1,4 +1,5 @@
-// A day of one till, sold from the bundle on standard input: a sale, the sale sent again, its cancellation, the sale sent again.
+// A day of one till, sold from the bundle on standard input: a sale, the sale sent again, its cancellation, the sale sent again; and a family's sale with
+// two cards, sent again with the cards the other way round.
 use offers::Leg;
 use offers::Outcome;
 use offers::Question;
@@ -6,8 +7,8 @@ use offers::Receipt;
 use offers::Refusal;
 use offers::Sum;
 
-// One ticket for three persons over two railways.
-fn ticket() -> Question {
+// One ticket over two railways.
+fn ticket(persons: u32, cards: [u32; 4]) -> Question {
     let none = Leg {
         railway: 0,
         fare: 0,
@@ -23,8 +24,8 @@ fn ticket() -> Question {
     Question {
         offer: 42,
         day: 20240615,
-        persons: 3,
-        cards: [0; 4],
+        persons,
+        cards,
         count: 2,
         legs: [first, second, none, none, none, none, none, none],
     }
@@ -92,12 +93,16 @@ fn main() {
     let n = io::read_full(0, &mut buffer);
     let bundle = &buffer[..n];
     let mut book = [0u32; 16385];
-    let sold = offers::sale(&mut book, bundle, 1, 1, ticket());
+    let sold = offers::sale(&mut book, bundle, 1, 1, ticket(3, [0; 4]));
     write_line(sold, &book);
-    let again = offers::sale(&mut book, bundle, 1, 1, ticket());
+    let again = offers::sale(&mut book, bundle, 1, 1, ticket(3, [0; 4]));
     write_line(again, &book);
     let cancelled = offers::cancel(&mut book, 1, 1);
     write_line(cancelled, &book);
-    let late = offers::sale(&mut book, bundle, 1, 1, ticket());
+    let late = offers::sale(&mut book, bundle, 1, 1, ticket(3, [0; 4]));
     write_line(late, &book);
+    let family = offers::sale(&mut book, bundle, 1, 2, ticket(2, [5, 7, 0, 0]));
+    write_line(family, &book);
+    let turned = offers::sale(&mut book, bundle, 1, 2, ticket(2, [7, 5, 0, 0]));
+    write_line(turned, &book);
 }
