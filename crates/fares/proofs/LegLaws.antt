@@ -32,7 +32,7 @@ use Rattle.fares.specs.declared.Leg.{Leg}
 use Rattle.fares.specs.declared.Question.{Question}
 use Rattle.fares.specs.declared.records.Cards.{Cards}
 use Rattle.fares.proofs.StepLaws.{conditions-small, step-small, greater-is, bound-grows, part-small}
-use Rattle.fares.proofs.CardLaws.{padded-front, padded-next, after-small}
+use Rattle.fares.proofs.LegCards.{padded-front, padded-next, after-small}
 
 -- four cards have the greatest bound
 abbrev pub mostBound : ℕ

@@ -30,7 +30,7 @@ use Rattle.fares.specs.declared.Leg.{Leg}
 use Rattle.fares.specs.declared.Question.{Question}
 use Rattle.fares.proofs.Grants.{Lawful, conditions-lawful}
 use Rattle.fares.proofs.RecordMeaning.{reduced-by, reduced-only, to-force, from-force}
-use Rattle.fares.proofs.CardMeaning.{cards-mean, cards-only}
+use Rattle.fares.proofs.PermittedMeaning.{cards-mean, cards-only}
 pub use Rattle.fares.proofs.RecordMeaning.{rounded-only}
 
 -- THE DAYS of a CO

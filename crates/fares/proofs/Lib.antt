@@ -4,10 +4,10 @@ pub mod Fit
 pub mod RoundLaws
 pub mod StepLaws
 pub mod LeastLaws
-pub mod CardLaws
+pub mod LegCards
 pub mod RecordMeaning
-pub mod CardRecords
-pub mod CardMeaning
+pub mod RecordsApplied
+pub mod PermittedMeaning
 pub mod LegLaws
 pub mod LegMeaning
 pub mod CardSlots

@@ -9,7 +9,7 @@ use borrow.Author.Needs.{needs}
 use Rattle.bundle.specs.Helpers.{bodyAt}
 use Rattle.fares.specs.Cards.{togetherOf}
 use Rattle.fares.specs.Helpers.{placesIn, bodiesAt}
-use Rattle.fares.proofs.CardLaws.{card-bodies-long, card-body-at, none-applies, all-alone, some-together, row-count, row-grants, row-fits, row-few, row-long}
+use Rattle.fares.proofs.LegCards.{card-bodies-long, card-body-at, none-applies, all-alone, some-together, row-count, row-grants, row-fits, row-few, row-long}
 use Rattle.fares.proofs.cards.after_cards.Statement.{statement}
 use Rattle.fares.proofs.cards.after_cards.Tie as tie
 

@@ -8,7 +8,7 @@ use lib.ListN.{drop, getD}
 use Rattle.fares.specs.Reductions.{reduceAll}
 use Rattle.fares.specs.Helpers.{grantOf, noStep, stepsIn}
 use Rattle.fares.proofs.StepLaws.{step-small}
-use Rattle.fares.proofs.CardLaws.{factor-at, row-step, row-last}
+use Rattle.fares.proofs.LegCards.{factor-at, row-step, row-last}
 use Rattle.fares.proofs.cards.after_row.Statement.{statement}
 use Rattle.fares.proofs.cards.after_row.Tie as tie
 

@@ -4,7 +4,7 @@ use Prim.Native.Nat.{_-_, _≤_}
 use mathlib.Core.Logic.{⊎-elim}
 use native.Mathlib.Omega.{arith}
 use native.Mathlib.Nat.{le-antisymm}
-use Rattle.fares.proofs.CardLaws.{Carried, carried-first, at-hand, carried-swapped, carried-on, carried-last}
+use Rattle.fares.proofs.LegCards.{Carried, carried-first, at-hand, carried-swapped, carried-on, carried-last}
 use Rattle.fares.proofs.cards.insert.Statement.{statement}
 use Rattle.fares.proofs.cards.insert.Tie as tie
 

@@ -14,7 +14,7 @@ use Rattle.bundle.specs.Helpers.{bodyAt}
 use Rattle.fares.specs.Reductions.{cardGrants, reduceBy}
 use Rattle.fares.specs.Cards.{isTogether, lesser, leastFrom}
 use Rattle.fares.specs.Helpers.{placesIn, bodiesAt, aloneFrom}
-use Rattle.fares.proofs.CardLaws.{card-bodies-long, card-body-at, alone-step, alone-last}
+use Rattle.fares.proofs.LegCards.{card-bodies-long, card-body-at, alone-step, alone-last}
 use Rattle.fares.proofs.cards.least_alone.Statement.{statement}
 use Rattle.fares.proofs.cards.least_alone.Tie as tie
 

@@ -10,7 +10,7 @@ use borrow.Author.Needs.{needs}
 use Rattle.layout.specs.Layout.{AR}
 use Rattle.layout.specs.Fields.{isYes}
 use Rattle.fares.specs.Helpers.{placesIn, bodiesAt, padded, noStep, rowBy}
-use Rattle.fares.proofs.CardLaws.{padded-length, Built, built-first, built-more, built-same, built-last, card-bodies-long, card-body-at}
+use Rattle.fares.proofs.LegCards.{padded-length, Built, built-first, built-more, built-same, built-last, card-bodies-long, card-body-at}
 use Rattle.fares.proofs.cards.together.Statement.{statement}
 use Rattle.fares.proofs.cards.together.Tie as tie
 

@@ -24,7 +24,7 @@ use Rattle.fares.specs.declared.Question.{Question}
 use Rattle.fares.proofs.Grants.{Lawful, card-lawful}
 use Rattle.fares.proofs.LeastLaws.{least-below, least-one}
 use Rattle.fares.proofs.RecordMeaning.{reduced-by, reduced-only}
-use Rattle.fares.proofs.CardRecords.{applied, isWith, withOthers, onTheirOwn, order-only, keeps-AR, says-one, own-says, says-own, all-together}
+use Rattle.fares.proofs.RecordsApplied.{applied, isWith, withOthers, onTheirOwn, order-only, keeps-AR, says-one, own-says, says-own, all-together}
 
 -- a choice of all that are applied together, if there are any, and of one alone
 abbrev ifAnyOf : List ℕ → List (List ℕ)
