@@ -31,7 +31,6 @@ use Rattle.fares.specs.declared.Question.{Question}
 use Rattle.fares.proofs.Grants.{Lawful, conditions-lawful}
 use Rattle.fares.proofs.RecordMeaning.{reduced-by, reduced-only, to-force, from-force}
 use Rattle.fares.proofs.PermittedMeaning.{cards-mean, cards-only}
-pub use Rattle.fares.proofs.RecordMeaning.{rounded-only}
 
 -- THE DAYS of a CO
 conditions-days : (body : List ℕ) → (firstDay CO body ≡ numberIn CO 42 body) × (lastDay CO body ≡ numberIn CO 44 body)

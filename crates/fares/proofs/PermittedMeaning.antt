@@ -3,7 +3,7 @@
 use Prim.Native.Nat.{ℕ, zero, suc, _≤_, _<_, zero-le, suc-le-suc}
 use mathlib.Core.Path.{_≡_, refl, sym, _∙_, ap, ap₂}
 use mathlib.Core.List.{List, [], _∷_, _++_, map, map-append, map-map}
-use mathlib.Core.Logic.{⊎-elim}
+use mathlib.Core.Logic.{_⊎_, inl, inr, ⊎-elim}
 use native.Mathlib.Nat.{le-antisymm, le-of-suc-le-suc, not-suc-le-zero}
 use native.Mathlib.Omega.{arith}
 use lib.ListN.{length, getD, length-map}
@@ -43,7 +43,18 @@ module _ (R : List Rec) (q : Question) (leg : Leg) (co : List ℕ) where
   not-none : {A : Type 0} {is : List ℕ} → Permitted R q leg co is → ((i : ℕ) → Applies R q leg co i → ⊥) → A
   not-none p f = let i = some-applies p in absurd (f (i .0) (i .1))
 
-  one-amount : {before x y : ℕ} → AfterCards R q leg co before x → AfterCards R q leg co before y → x ≡ y
+  -- no choice that is permitted leaves less, and the amount is what one of them leaves, or none applies
+  pub not-above : {before last : ℕ} → AfterCards R q leg co before last → (choice : List ℕ) (left : ℕ) → Permitted R q leg co choice
+      → After R q leg choice before left → last ≤ left
+  not-above (none-applies f) choice left p a = not-none p f
+  not-above (least c r b m) choice left p a = m choice left p a
+
+  pub by-one : {before last : ℕ} → AfterCards R q leg co before last
+      → (((i : ℕ) → Applies R q leg co i → ⊥) × (last ≡ before)) ⊎ ((choice : List ℕ) × Permitted R q leg co choice × After R q leg choice before last)
+  by-one (none-applies f) = inl (f, refl)
+  by-one (least c p a m) = inr (c, p, a)
+
+  pub one-amount : {before x y : ℕ} → AfterCards R q leg co before x → AfterCards R q leg co before y → x ≡ y
   one-amount (none-applies f) (none-applies g) = refl
   one-amount (none-applies f) (least c p a m) = not-none p f
   one-amount (least c p a m) (none-applies f) = not-none p f

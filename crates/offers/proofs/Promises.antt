@@ -6,7 +6,8 @@ use Prim.Native.Nat.{ℕ, _+_, _*_, _≤_, _<_}
 use mathlib.Core.Path.{_≡_, refl, sym, _∙_, ap}
 use mathlib.Core.Bool.{Bool, true, false, cond}
 use mathlib.Core.List.{List, [], _∷_, _++_, List·Memᴰ}
-use mathlib.Core.Logic.{_↔_}
+use mathlib.Core.Logic.{_↔_, _⊎_, inl, inr, ⊎-elim}
+use native.Mathlib.Nat.{mul-le-mul-right}
 use native.Mathlib.Omega.{arith}
 use lib.Dec.{eqb}
 use lib.ListN.{length, getD, replicate}
@@ -43,13 +44,16 @@ use Rattle.fares.specs.Rounding.{IsRounded}
 use Rattle.fares.specs.Fare.{partsOf, fareOf}
 use Rattle.fares.specs.Question.{cardSlots, cardsOf, cardsDiffer, inLimits}
 use Rattle.fares.specs.Reductions.{greater, partBound}
-use Rattle.fares.specs.Meaning.{cardAt, InLimits, CardsDiffer, IsFare, NoFare}
+use Rattle.fares.specs.Meaning.{cardAt, InLimits, CardsDiffer, Applies, AllTogether, Permitted, After, AfterCards, LegFare, IsFare, NoFare}
 use Rattle.fares.specs.OneCard.{OneCard, baseFare}
 use Rattle.fares.specs.Figures as fares
+use Rattle.fares.specs.declared.Leg.{Leg}
 use Rattle.fares.specs.declared.Question.{Question}
 use Rattle.fares.specs.declared.Pricing.the-variants.{Priced, Refused}
 use Rattle.fares.proofs.RoundLaws.{nothing-left}
-use Rattle.fares.proofs.LegMeaning.{rounded-only}
+use Rattle.fares.proofs.RecordMeaning.{rounded-only}
+use Rattle.fares.proofs.RecordsApplied.{order-only}
+use Rattle.fares.proofs.PermittedMeaning.{not-above, by-one, one-amount}
 use Rattle.fares.proofs.QuestionLimits.{limits-mean, means-limits}
 use Rattle.fares.proofs.CardSlots.{differ-means, means-differ}
 use Rattle.fares.proofs.Meaning.{fare-means, means-fare, no-fare-means, means-no-fare, part-bounded}
@@ -158,7 +162,7 @@ unfolding forLegs ofOffers any every tableAt tables
 such-are-the-tables-of-offers = (refl, refl, refl)
 
 -- DEMAND 2, a fare. It is answered only with what it means: for each leg the CO that it uses, the plain fare less its discount, rounded as that record says, and
--- if a card counts the same by its AR; times the persons; and the sum. And it is answered if it means that.
+-- then the same by the AR records of its cards, of what is permitted the least; times the persons; and the sum. And it is answered if it means that.
 pub a-fare-is-what-the-records-say : (bundle : List ℕ) (q : Question) (fare : ℕ) (parts : List ℕ) → fareTells (fareOf bundle q) ≡ answers (fare ∷ parts)
     → IsFare bundle (recordsOf bundle) q fare parts
 a-fare-is-what-the-records-say bundle q fare parts e = fare-means bundle q fare parts (told-priced (fareOf bundle q) fare parts e)
@@ -167,6 +171,32 @@ pub what-the-records-say-is-the-fare : (bundle : List ℕ) (R : List Rec) (q : Q
     → fareTells (fareOf bundle q) ≡ answers (fare ∷ parts)
 unfolding fareTells pricingTells
 what-the-records-say-is-the-fare bundle R q fare parts f = rw (means-fare bundle R q fare parts f)
+
+-- SEVERAL CARDS. Of the records that apply to a leg it is permitted to take all with Y, in rising rating and code, or one with N. No choice that is permitted is
+-- cheaper than the part; and the part is what one of them leaves, or no record applies and it is by the amount after the CO.
+module _ {R : List Rec} {q : Question} {leg : Leg} {part : ℕ} (l : LegFare R q leg part) where
+  abbrev co : List ℕ
+  co = recordAt R (l .at) .body
+
+  pub no-permitted-choice-is-cheaper : (choice : List ℕ) (left : ℕ) → Permitted R q leg co choice → After R q leg choice (l .amount) left
+      → part ≤ left * q .persons
+  no-permitted-choice-is-cheaper choice left p a =
+      rw (l .times-persons) (mul-le-mul-right (q .persons) (not-above R q leg co (l .by-cards) choice left p a))
+
+  pub a-part-is-by-a-permitted-choice : (((i : ℕ) → Applies R q leg co i → ⊥) × (part ≡ l .amount * q .persons))
+      ⊎ ((choice : List ℕ) × (left : ℕ) × Permitted R q leg co choice × After R q leg choice (l .amount) left × (part ≡ left * q .persons))
+  a-part-is-by-a-permitted-choice =
+      ⊎-elim (λ n. inl (n .0, l .times-persons ∙ ap (_* q .persons) (n .1))) (λ c. inr (c .0, l .last, c .1, c .2, l .times-persons))
+      (by-one R q leg co (l .by-cards))
+
+-- There is one order of the records with Y, and one amount after the cards.
+pub the-records-together-have-one-order : (R : List Rec) (q : Question) (leg : Leg) (co : List ℕ) {is js : List ℕ} → AllTogether R q leg co is → AllTogether R q leg co js
+    → is ≡ js
+the-records-together-have-one-order = order-only
+
+pub the-cards-leave-one-amount : (R : List Rec) (q : Question) (leg : Leg) (co : List ℕ) {before a b : ℕ} → AfterCards R q leg co before a → AfterCards R q leg co before b
+    → a ≡ b
+the-cards-leave-one-amount = one-amount
 
 -- A question is within its limits exactly if each of its values is, and gives no card twice exactly if slots that have the same are not used.
 pub the-limits-of-a-question : (q : Question) → (inLimits q ≡ true) ↔ InLimits q
