@@ -76,11 +76,11 @@ pub fn together(applying: &[CardRecord]) -> Option<Choice> {
 }
 
 #[cfg(test)]
-mod tests {
+pub mod tests {
     use super::*;
     use crate::rounding::Rounding;
 
-    fn record(code: u64, rating: u64, discount: u64, byte: u8, factor: u64) -> CardRecord {
+    pub fn record(code: u64, rating: u64, discount: u64, byte: u8, factor: u64) -> CardRecord {
         CardRecord {
             code,
             is_cumulative: true,

@@ -275,20 +275,7 @@ fn parts_of(records: &[CardRecord]) -> Vec<Choice> {
 #[cfg(test)]
 mod tests {
     use super::*;
-    use crate::rounding::{Reduction, Rounding};
-
-    fn record(code: u64, rating: u64, discount: u64, byte: u8, factor: u64) -> CardRecord {
-        CardRecord {
-            code,
-            is_cumulative: true,
-            rating,
-            source: Source::Own,
-            reduction: Reduction {
-                discount,
-                rounding: Rounding::of_accepted(byte, factor),
-            },
-        }
-    }
+    use crate::cards::tests::record;
 
     fn alone(code: u64, discount: u64) -> CardRecord {
         CardRecord {
