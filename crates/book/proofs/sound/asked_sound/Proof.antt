@@ -35,4 +35,4 @@ returns-3 c =
 
 pub asked-sound-spec : {M : Type 1} → statement M
 asked-sound-spec =
-    tie.close (tie.spec (λ c κs. search needs) returns (λ c κs. search needs) returns-2 (λ c κs. search needs) returns-3)
+    tie.close (tie.spec (λ c κs. search needs) returns (λ c κs. holds (c .before .in-limits .result) (c .if1 .left) (c .before .in-limits .ensures)) returns-2 (λ c κs. search needs) returns-3)
