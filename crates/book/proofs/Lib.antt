@@ -4,6 +4,7 @@ pub mod QuestionWords
 pub mod EntryWords
 pub mod NumbersDiffer
 pub mod SoundBook
+pub mod UnusedWords
 pub mod AmountsAreDue
 pub mod ChangedEntries
 pub mod StaysSound

@@ -21,42 +21,28 @@ use Rattle.book.proofs.ComparedWords.{card-said, leg-said, used-said}
 pub zeros : (f : ℕ → ℕ) (m : ℕ) → upTo f m ≡ upTo (λ k. 0) m → (k : ℕ) → k < m → f k ≡ 0
 zeros f m e k l = sym (upto-at f m k 0 l) ∙ (ap (λ xs. getD xs k 0) e ∙ upto-at (λ j. 0) m k 0 l)
 
-module _ (q : Question) where
+-- WHAT A QUESTION of n legs does not use among its words is zero: the category, further pairs, two words of a leg, and the legs from n on
+pub record Unused (ws : List ℕ) (n : ℕ) : Type 0 where
+  pub category : getD ws pairsAt 0 ≡ 0
+  pub pairs : (k : ℕ) → k < pairsWidth - 2 → getD ws (pairsAt + 2 + k) 0 ≡ 0
+  pub third : (k : ℕ) → k < 8 → getD ws (railwayAt k + 2) 0 ≡ 0
+  pub fourth : (k : ℕ) → k < 8 → getD ws (railwayAt k + 3) 0 ≡ 0
+  pub legs : (k : ℕ) → k < 8 → n ≤ k → (getD ws (railwayAt k) 0 ≡ 0) × (getD ws (fareAt k) 0 ≡ 0)
+
+module _ (ws : List ℕ) (n : ℕ) (z : Unused ws n) where
   abbrev pub Place : ℕ → Type 0
-  Place r = Used (q .count) (askedAt + r) ⊎ (getD (questionWords q) r 0 ≡ 0)
-
-  -- before the legs: the category, and further pairs are zero
-  category : getD (questionWords q) pairsAt 0 ≡ 0
-  unfolding questionWords upTo
-  category = refl
-
-  more-pairs : (k : ℕ) → k < pairsWidth - 2 → getD (questionWords q) (pairsAt + 2 + k) 0 ≡ 0
-  unfolding questionWords upTo
-  more-pairs = zeros (λ k. getD (questionWords q) (pairsAt + 2 + k) 0) (pairsWidth - 2) refl
-
-  -- a leg: its railway and fare, unless it is not used, and two words that are zero
-  no-leg : (k : ℕ) → k < 8 → q .count ≤ k → legOf (questionWords q) k ≡ noLeg
-  no-leg k l m = leg-said q k l ∙ rw (le-ltb k (q .count) m)
-
-  third : (k : ℕ) → k < 8 → getD (questionWords q) (railwayAt k + 2) 0 ≡ 0
-  unfolding questionWords upTo flatMap
-  third = zeros (λ k. getD (questionWords q) (railwayAt k + 2) 0) 8 refl
-
-  fourth : (k : ℕ) → k < 8 → getD (questionWords q) (railwayAt k + 3) 0 ≡ 0
-  unfolding questionWords upTo flatMap
-  fourth = zeros (λ k. getD (questionWords q) (railwayAt k + 3) 0) 8 refl
+  Place r = Used n (askedAt + r) ⊎ (getD ws r 0 ≡ 0)
 
   leg-places : (k : ℕ) → k < 8 → Place (railwayAt k) × Place (fareAt k)
   leg-places k l =
-      ⊎-elim (λ m. (inl (railway k m refl), inl (fare k m refl)))
-      (λ m. (inr (ap (λ leg. leg .railway) (no-leg k l m)), inr (ap (λ leg. leg .fare) (no-leg k l m)))) (side k (q .count))
+      ⊎-elim (λ m. (inl (railway k m refl), inl (fare k m refl))) (λ m. let b = z .legs k l m in (inr (b .0), inr (b .1))) (side k n)
 
   -- every place, before the legs and among them
   before-legs : (r : ℕ) → r < legsAt → Place r
   before-legs r l = ⊎-elim first (⊎-elim (λ e. inl (count (omega arith))) last) (order r countAt)
     where
-      at-zero : (p : ℕ) → r ≡ p → getD (questionWords q) p 0 ≡ 0 → Place r
-      at-zero p e z = inr (ap (λ i. getD (questionWords q) i 0) e ∙ z)
+      at-zero : (p : ℕ) → r ≡ p → getD ws p 0 ≡ 0 → Place r
+      at-zero p e y = inr (ap (λ i. getD ws i 0) e ∙ y)
 
       first : r < countAt → Place r
       first a =
@@ -65,8 +51,8 @@ module _ (q : Question) where
 
       last : countAt < r → Place r
       last a =
-          ⊎-elim (λ h. at-zero pairsAt (omega arith) category)
-          (⊎-elim (λ e. inl (persons (omega arith))) (λ h. at-zero (pairsAt + 2 + (r - (pairsAt + 2))) (omega arith) (more-pairs (r - (pairsAt + 2)) (omega arith))))
+          ⊎-elim (λ h. at-zero pairsAt (omega arith) (z .category))
+          (⊎-elim (λ e. inl (persons (omega arith))) (λ h. at-zero (pairsAt + 2 + (r - (pairsAt + 2))) (omega arith) (z .pairs (r - (pairsAt + 2)) (omega arith))))
           (order r personsAt)
 
   module _ (r : ℕ) (a : legsAt ≤ r) (b : r < questionWidth) where
@@ -80,20 +66,54 @@ module _ (q : Question) where
     inside = omega arith
 
     value-or-none : rest < 2 → Place r
-    value-or-none h =
-        ⊎-elim (λ z. let e : railwayAt leg ≡ r = omega arith in subst Place e (leg-places leg inside .0))
-        (λ z. let e : fareAt leg ≡ r = omega arith in subst Place e (leg-places leg inside .1)) (side rest 1)
+    value-or-none u =
+        ⊎-elim (λ h. let e : railwayAt leg ≡ r = omega arith in subst Place e (leg-places leg inside .0))
+        (λ h. let e : fareAt leg ≡ r = omega arith in subst Place e (leg-places leg inside .1)) (side rest 1)
 
     kept-zero : 2 ≤ rest → Place r
-    kept-zero h =
-        ⊎-elim (λ z. let e : railwayAt leg + 2 ≡ r = omega arith in subst Place e (inr (third leg inside)))
-        (λ z. let e : railwayAt leg + 3 ≡ r = omega arith in subst Place e (inr (fourth leg inside))) (side rest 3)
+    kept-zero u =
+        ⊎-elim (λ h. let e : railwayAt leg + 2 ≡ r = omega arith in subst Place e (inr (z .third leg inside)))
+        (λ h. let e : railwayAt leg + 3 ≡ r = omega arith in subst Place e (inr (z .fourth leg inside))) (side rest 3)
 
     among-legs : Place r
     among-legs = ⊎-elim value-or-none kept-zero (side rest 2)
 
-  pub places : (r : ℕ) → r < questionWidth → Place r
-  places r l = ⊎-elim (before-legs r) (λ a. among-legs r a l) (side r legsAt)
+  pub all-places : (r : ℕ) → r < questionWidth → Place r
+  all-places r l = ⊎-elim (before-legs r) (λ a. among-legs r a l) (side r legsAt)
+
+-- so it is in the words of a question
+module _ (q : Question) where
+  category-zero : getD (questionWords q) pairsAt 0 ≡ 0
+  unfolding questionWords upTo
+  category-zero = refl
+
+  more-pairs : (k : ℕ) → k < pairsWidth - 2 → getD (questionWords q) (pairsAt + 2 + k) 0 ≡ 0
+  unfolding questionWords upTo
+  more-pairs = zeros (λ k. getD (questionWords q) (pairsAt + 2 + k) 0) (pairsWidth - 2) refl
+
+  third-zero : (k : ℕ) → k < 8 → getD (questionWords q) (railwayAt k + 2) 0 ≡ 0
+  unfolding questionWords upTo flatMap
+  third-zero = zeros (λ k. getD (questionWords q) (railwayAt k + 2) 0) 8 refl
+
+  fourth-zero : (k : ℕ) → k < 8 → getD (questionWords q) (railwayAt k + 3) 0 ≡ 0
+  unfolding questionWords upTo flatMap
+  fourth-zero = zeros (λ k. getD (questionWords q) (railwayAt k + 3) 0) 8 refl
+
+  no-leg : (k : ℕ) → k < 8 → q .count ≤ k → legOf (questionWords q) k ≡ noLeg
+  no-leg k l m = leg-said q k l ∙ rw (le-ltb k (q .count) m)
+
+  pub words-unused : Unused (questionWords q) (q .count)
+  words-unused =
+      record {
+        category = category-zero;
+        pairs = more-pairs;
+        third = third-zero;
+        fourth = fourth-zero;
+        legs = λ k l m. (ap (λ leg. leg .railway) (no-leg k l m), ap (λ leg. leg .fare) (no-leg k l m));
+      }
+
+  pub places : (r : ℕ) → r < questionWidth → Used (q .count) (askedAt + r) ⊎ (getD (questionWords q) r 0 ≡ 0)
+  places = all-places (questionWords q) (q .count) words-unused
 
 -- THE QUESTION THAT WORDS SAY has these words again, at each place that is used
 module _ (ws : List ℕ) (few : questionOf ws .count ≤ 8) where

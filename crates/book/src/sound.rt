@@ -7,13 +7,19 @@ ghost use Rattle.common.specs.Lists.{every, upTo};
 ghost use Rattle.fares.specs.Question.{cardSlots, cardsDiffer, inLimits};
 ghost use Rattle.book.specs.Words.{capacity, bookLength, startOf, width, questionWidth, questionOf, entryOf, entryAt};
 ghost use Rattle.book.specs.Sound.{isZero, numberInLimits, askedSound, boundOf, isBounded, entrySound, soundWords};
+ghost use Rattle.book.specs.Helpers.{legsClear, unusedZero};
 use super::words::ASKED;
 use super::words::CAPACITY;
 use super::words::ENTRIES;
 use super::words::ENTRY_COUNT;
 use super::words::LEG_COUNT;
+use super::words::LEG_WIDTH;
+use super::words::LEGS;
 use super::words::LENGTH;
+use super::words::PAIRS;
 use super::words::PARTS;
+use super::words::PERSONS;
+use super::words::QUESTION_WIDTH;
 use super::words::SEQUENCE;
 use super::words::SPARE;
 use super::words::STATUS;
@@ -90,18 +96,61 @@ fn bound_of(q: Question) -> u32
     fares::limits::part_bound(q)
 }
 
+// Whether two words of each of the first legs, which are kept zero, are.
+fn legs_clear(words: &[u32], count: usize) -> bool
+    requires { ⌜ (length (now words) ≡ questionWidth) × (count ≤ 8) ⌝ }
+    ensures { λ r. ⌜ r ≡ legsClear (now (words .entry)) count ⌝ }
+{
+    let mut j = 0;
+    while j < count {
+        let at = LEGS + LEG_WIDTH * j;
+        if words[at + 2] != 0 {
+            return false;
+        }
+        if words[at + 3] != 0 {
+            return false;
+        }
+        j += 1;
+    }
+    true
+}
+
+// Whether what a question of so many legs does not use is zero.
+fn unused_zero(words: &[u32], count: usize) -> bool
+    requires { ⌜ (length (now words) ≡ questionWidth) × (count ≤ 8) ⌝ }
+    ensures { λ r. ⌜ r ≡ unusedZero (now (words .entry)) count ⌝ }
+{
+    if words[PAIRS] != 0 {
+        return false;
+    }
+    let pairs = PERSONS + 1;
+    if !all_zero(&words[pairs..LEGS]) {
+        return false;
+    }
+    let legs = LEGS + LEG_WIDTH * count;
+    if !all_zero(&words[legs..QUESTION_WIDTH]) {
+        return false;
+    }
+    legs_clear(words, count)
+}
+
 // Whether words are sound, given the question that they say.
 fn asked_sound(words: &[u32], q: Question) -> bool
     requires { ⌜ (length (now words) ≡ questionWidth) × (q ≡ questionOf (now words)) ⌝ }
     ensures { λ r. ⌜ r ≡ askedSound (now (words .entry)) ⌝ }
 {
+    let count = q.count as usize;
+    if 8 < count {
+        return false;
+    }
+    // the words first: a processor reads a question faster that was not written just before
+    if !unused_zero(words, count) {
+        return false;
+    }
     if !fares::limits::in_limits(q) {
         return false;
     }
-    if !cards_differ(q) {
-        return false;
-    }
-    super::words::says(words, q)
+    cards_differ(q)
 }
 
 // Whether the words of an entry are sound.

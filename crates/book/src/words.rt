@@ -18,13 +18,13 @@ const CARDS_WIDTH: usize = 4;
 
 const COUNT: usize = CARDS + CARDS_WIDTH;
 
-const PAIRS: usize = COUNT + 1;
+pub const PAIRS: usize = COUNT + 1;
 
-const PERSONS: usize = PAIRS + 1;
+pub const PERSONS: usize = PAIRS + 1;
 
 const PAIRS_WIDTH: usize = 6 * 2;
 
-const LEGS: usize = PAIRS + PAIRS_WIDTH;
+pub const LEGS: usize = PAIRS + PAIRS_WIDTH;
 
 pub const LEG_WIDTH: usize = 4;
 
