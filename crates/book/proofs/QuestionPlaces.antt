@@ -13,7 +13,7 @@ use Rattle.common.proofs.Lists.{upto-at}
 use Rattle.common.proofs.Tests.{order, side}
 use Rattle.fares.specs.Question.{noLeg}
 use Rattle.fares.specs.declared.Question.{Question}
-use Rattle.book.specs.Words.{offerAt, dayAt, cardsAt, cardsWidth, countAt, pairsAt, pairsWidth, personsAt, legsAt, legWidth, questionWidth, railwayAt, fareAt, cardIn, legOf, questionWords, questionOf, askedAt}
+use Rattle.book.specs.Words.{offerAt, dayAt, cardsAt, cardsWidth, countAt, pairsAt, morePairsAt, morePairsWidth, personsAt, legsAt, legWidth, questionWidth, railwayAt, fareAt, thirdAt, fourthAt, cardIn, legOf, questionWords, questionOf, askedAt}
 use Rattle.book.specs.Meaning.{Used, till, sequence, offer, day, persons, card, count, railway, fare, part, status}
 use Rattle.book.proofs.ComparedWords.{card-said, leg-said, used-said}
 
@@ -24,9 +24,9 @@ zeros f m e k l = sym (upto-at f m k 0 l) ∙ (ap (λ xs. getD xs k 0) e ∙ upt
 -- WHAT A QUESTION of n legs does not use among its words is zero: the category, further pairs, two words of a leg, and the legs from n on
 pub record Unused (ws : List ℕ) (n : ℕ) : Type 0 where
   pub category : getD ws pairsAt 0 ≡ 0
-  pub pairs : (k : ℕ) → k < pairsWidth - 2 → getD ws (pairsAt + 2 + k) 0 ≡ 0
-  pub third : (k : ℕ) → k < 8 → getD ws (railwayAt k + 2) 0 ≡ 0
-  pub fourth : (k : ℕ) → k < 8 → getD ws (railwayAt k + 3) 0 ≡ 0
+  pub pairs : (k : ℕ) → k < morePairsWidth → getD ws (morePairsAt + k) 0 ≡ 0
+  pub third : (k : ℕ) → k < 8 → getD ws (thirdAt k) 0 ≡ 0
+  pub fourth : (k : ℕ) → k < 8 → getD ws (fourthAt k) 0 ≡ 0
   pub legs : (k : ℕ) → k < 8 → n ≤ k → (getD ws (railwayAt k) 0 ≡ 0) × (getD ws (fareAt k) 0 ≡ 0)
 
 module _ (ws : List ℕ) (n : ℕ) (z : Unused ws n) where
@@ -52,7 +52,7 @@ module _ (ws : List ℕ) (n : ℕ) (z : Unused ws n) where
       last : countAt < r → Place r
       last a =
           ⊎-elim (λ h. at-zero pairsAt (omega arith) (z .category))
-          (⊎-elim (λ e. inl (persons (omega arith))) (λ h. at-zero (pairsAt + 2 + (r - (pairsAt + 2))) (omega arith) (z .pairs (r - (pairsAt + 2)) (omega arith))))
+          (⊎-elim (λ e. inl (persons (omega arith))) (λ h. at-zero (morePairsAt + (r - morePairsAt)) (omega arith) (z .pairs (r - morePairsAt) (omega arith))))
           (order r personsAt)
 
   module _ (r : ℕ) (a : legsAt ≤ r) (b : r < questionWidth) where
@@ -72,8 +72,8 @@ module _ (ws : List ℕ) (n : ℕ) (z : Unused ws n) where
 
     kept-zero : 2 ≤ rest → Place r
     kept-zero u =
-        ⊎-elim (λ h. let e : railwayAt leg + 2 ≡ r = omega arith in subst Place e (inr (z .third leg inside)))
-        (λ h. let e : railwayAt leg + 3 ≡ r = omega arith in subst Place e (inr (z .fourth leg inside))) (side rest 3)
+        ⊎-elim (λ h. let e : thirdAt leg ≡ r = omega arith in subst Place e (inr (z .third leg inside)))
+        (λ h. let e : fourthAt leg ≡ r = omega arith in subst Place e (inr (z .fourth leg inside))) (side rest 3)
 
     among-legs : Place r
     among-legs = ⊎-elim value-or-none kept-zero (side rest 2)
@@ -87,17 +87,17 @@ module _ (q : Question) where
   unfolding questionWords upTo
   category-zero = refl
 
-  more-pairs : (k : ℕ) → k < pairsWidth - 2 → getD (questionWords q) (pairsAt + 2 + k) 0 ≡ 0
+  more-pairs : (k : ℕ) → k < morePairsWidth → getD (questionWords q) (morePairsAt + k) 0 ≡ 0
   unfolding questionWords upTo
-  more-pairs = zeros (λ k. getD (questionWords q) (pairsAt + 2 + k) 0) (pairsWidth - 2) refl
+  more-pairs = zeros (λ k. getD (questionWords q) (morePairsAt + k) 0) morePairsWidth refl
 
-  third-zero : (k : ℕ) → k < 8 → getD (questionWords q) (railwayAt k + 2) 0 ≡ 0
+  third-zero : (k : ℕ) → k < 8 → getD (questionWords q) (thirdAt k) 0 ≡ 0
   unfolding questionWords upTo flatMap
-  third-zero = zeros (λ k. getD (questionWords q) (railwayAt k + 2) 0) 8 refl
+  third-zero = zeros (λ k. getD (questionWords q) (thirdAt k) 0) 8 refl
 
-  fourth-zero : (k : ℕ) → k < 8 → getD (questionWords q) (railwayAt k + 3) 0 ≡ 0
+  fourth-zero : (k : ℕ) → k < 8 → getD (questionWords q) (fourthAt k) 0 ≡ 0
   unfolding questionWords upTo flatMap
-  fourth-zero = zeros (λ k. getD (questionWords q) (railwayAt k + 3) 0) 8 refl
+  fourth-zero = zeros (λ k. getD (questionWords q) (fourthAt k) 0) 8 refl
 
   no-leg : (k : ℕ) → k < 8 → q .count ≤ k → legOf (questionWords q) k ≡ noLeg
   no-leg k l m = leg-said q k l ∙ rw (le-ltb k (q .count) m)

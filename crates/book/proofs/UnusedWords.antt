@@ -13,7 +13,7 @@ use Rattle.common.specs.Lists.{every, same, upTo}
 use Rattle.common.proofs.Lists.{every-at, every-by, zero-at, is-same, same-is, upto-length, upto-at}
 use Rattle.common.proofs.Tests.{side, never, both-true, refuted}
 use Rattle.fares.specs.declared.Question.{Question}
-use Rattle.book.specs.Words.{pairsAt, pairsWidth, railwayAt, fareAt, questionWidth, questionOf, questionWords, askedAt}
+use Rattle.book.specs.Words.{morePairsAt, morePairsWidth, railwayAt, fareAt, thirdAt, fourthAt, questionWidth, questionOf, questionWords, askedAt}
 use Rattle.book.specs.Sound.{isZero}
 use Rattle.book.specs.Meaning.{Used, till, sequence, offer, day, persons, card, count, railway, fare, part, status}
 use Rattle.book.specs.Helpers.{legClear, legsClear, unusedZero}
@@ -28,13 +28,13 @@ module _ (ws : List ℕ) (n : ℕ) (long : length ws ≡ questionWidth) (few : n
     unfolding unusedZero
     behind = zero-from ws (railwayAt n) (every-at (λ b. b) _ e 2 true (omega arith))
 
-    in-leg : (k : ℕ) → k < n → (getD ws (railwayAt k + 2) 0 ≡ 0) × (getD ws (railwayAt k + 3) 0 ≡ 0)
+    in-leg : (k : ℕ) → k < n → (getD ws (thirdAt k) 0 ≡ 0) × (getD ws (fourthAt k) 0 ≡ 0)
     unfolding unusedZero
     in-leg k l =
         let h : legsClear ws n ≡ true = every-at (λ b. b) _ e 3 true (omega arith) in
         let g : legClear ws (getD (upTo (λ j. j) n) k 0) ≡ true = every-at (legClear ws) (upTo (λ j. j) n) h k 0 (rw (upto-length (λ (j : ℕ). j) n) l) in
         let f : legClear ws k ≡ true = rw (upto-at (λ (j : ℕ). j) n k 0 l) at g in
-        let b = both-true (isZero (getD ws (railwayAt k + 2) 0)) (isZero (getD ws (railwayAt k + 3) 0)) f in
+        let b = both-true (isZero (getD ws (thirdAt k) 0)) (isZero (getD ws (fourthAt k) 0)) f in
         (eqb-true _ 0 (b .0), eqb-true _ 0 (b .1))
 
     found : Unused ws n
@@ -43,10 +43,10 @@ module _ (ws : List ℕ) (n : ℕ) (long : length ws ≡ questionWidth) (few : n
         record {
           category = eqb-true _ 0 (every-at (λ b. b) _ e 0 true (omega arith));
           pairs = λ k l.
-              let h : every isZero (take (pairsWidth - 2) (drop (pairsAt + 2) ws)) ≡ true = every-at (λ b. b) _ e 1 true (omega arith) in
-              sym (getD-take (pairsWidth - 2) (drop (pairsAt + 2) ws) k 0 l ∙ getD-drop (pairsAt + 2) ws k 0) ∙ zero-at (take (pairsWidth - 2) (drop (pairsAt + 2) ws)) h k;
-          third = λ k l. ⊎-elim (λ h. in-leg k h .0) (λ h. behind (railwayAt k + 2) (omega arith)) (side k n);
-          fourth = λ k l. ⊎-elim (λ h. in-leg k h .1) (λ h. behind (railwayAt k + 3) (omega arith)) (side k n);
+              let h : every isZero (take morePairsWidth (drop morePairsAt ws)) ≡ true = every-at (λ b. b) _ e 1 true (omega arith) in
+              sym (getD-take morePairsWidth (drop morePairsAt ws) k 0 l ∙ getD-drop morePairsAt ws k 0) ∙ zero-at (take morePairsWidth (drop morePairsAt ws)) h k;
+          third = λ k l. ⊎-elim (λ h. in-leg k h .0) (λ h. behind (thirdAt k) (omega arith)) (side k n);
+          fourth = λ k l. ⊎-elim (λ h. in-leg k h .1) (λ h. behind (fourthAt k) (omega arith)) (side k n);
           legs = λ k l h. (behind (railwayAt k) (omega arith), behind (fareAt k) (omega arith));
         }
 
@@ -68,12 +68,12 @@ module _ (ws : List ℕ) (n : ℕ) (long : length ws ≡ questionWidth) (few : n
         unless-used (part k m i) = absurd (omega arith)
         unless-used (status i) = absurd (omega arith)
 
-    pairs-found : every isZero (take (pairsWidth - 2) (drop (pairsAt + 2) ws)) ≡ true
+    pairs-found : every isZero (take morePairsWidth (drop morePairsAt ws)) ≡ true
     pairs-found =
-        let m : length (take (pairsWidth - 2) (drop (pairsAt + 2) ws)) ≡ pairsWidth - 2 = rw (length-take, length-drop) (omega arith) in
-        every-by isZero 0 (take (pairsWidth - 2) (drop (pairsAt + 2) ws))
-        (λ k l. let h : k < pairsWidth - 2 = omega (arith, m) in
-        eq-eqb _ 0 (getD-take (pairsWidth - 2) (drop (pairsAt + 2) ws) k 0 h ∙ (getD-drop (pairsAt + 2) ws k 0 ∙ z .pairs k h)))
+        let m : length (take morePairsWidth (drop morePairsAt ws)) ≡ morePairsWidth = rw (length-take, length-drop) (omega arith) in
+        every-by isZero 0 (take morePairsWidth (drop morePairsAt ws))
+        (λ k l. let h : k < morePairsWidth = omega (arith, m) in
+        eq-eqb _ 0 (getD-take morePairsWidth (drop morePairsAt ws) k 0 h ∙ (getD-drop morePairsAt ws k 0 ∙ z .pairs k h)))
 
     behind-found : every isZero (drop (railwayAt n) ws) ≡ true
     behind-found =

@@ -1,13 +1,13 @@
 -- Short names that contracts of inner functions and proofs use. Nothing here has to be believed: no contract of the engine's six calls and no promise reaches it.
 -- Assumes nothing.
-use Prim.Native.Nat.{ℕ, _+_, _-_, _*_, _≤_, _<_}
+use Prim.Native.Nat.{ℕ, _+_, _*_, _≤_, _<_}
 use mathlib.Core.Bool.{Bool, cond, _&&_}
 use mathlib.Core.List.{List, [], _∷_}
 use lib.Dec.{eqb, ltb}
 use lib.ListN.{getD, take, drop}
 use Rattle.common.specs.Least.{least}
 use Rattle.common.specs.Lists.{every, upTo}
-use Rattle.book.specs.Words.{pairsAt, pairsWidth, railwayAt, entryAt}
+use Rattle.book.specs.Words.{pairsAt, morePairsAt, morePairsWidth, railwayAt, thirdAt, fourthAt, entryAt}
 use Rattle.book.specs.Sound.{isZero, hasNumber}
 use Rattle.book.specs.Amounts.{ofRailway, ofAll}
 
@@ -29,7 +29,7 @@ repeatsEarlier book i = ltb (heldBefore book i (entryAt book i .till) (entryAt b
 
 -- WHAT A QUESTION OF n LEGS DOES NOT USE among its words is zero: two words of each leg, the category, further pairs, and the legs from n on
 abbrev pub legClear : List ℕ → ℕ → Bool
-legClear ws j = isZero (getD ws (railwayAt j + 2) 0) && isZero (getD ws (railwayAt j + 3) 0)
+legClear ws j = isZero (getD ws (thirdAt j) 0) && isZero (getD ws (fourthAt j) 0)
 
 abbrev pub legsClear : List ℕ → ℕ → Bool
 legsClear ws n = every (legClear ws) (upTo (λ j. j) n)
@@ -38,7 +38,7 @@ unfoldable pub unusedZero : List ℕ → ℕ → Bool
 unusedZero ws n =
     every (λ b. b) (
     isZero (getD ws pairsAt 0) ∷
-    every isZero (take (pairsWidth - 2) (drop (pairsAt + 2) ws)) ∷
+    every isZero (take morePairsWidth (drop morePairsAt ws)) ∷
     every isZero (drop (railwayAt n) ws) ∷
     legsClear ws n ∷
     [])

@@ -46,11 +46,23 @@ questionWidth = legsAt + 8 * legWidth
 abbrev pub personsAt : ℕ
 personsAt = pairsAt + 1
 
+abbrev pub morePairsAt : ℕ
+morePairsAt = pairsAt + 2
+
+abbrev pub morePairsWidth : ℕ
+morePairsWidth = pairsWidth - 2
+
 abbrev pub railwayAt : ℕ → ℕ
 railwayAt j = legsAt + legWidth * j
 
 abbrev pub fareAt : ℕ → ℕ
 fareAt j = railwayAt j + 1
+
+abbrev pub thirdAt : ℕ → ℕ
+thirdAt j = railwayAt j + 2
+
+abbrev pub fourthAt : ℕ → ℕ
+fourthAt j = railwayAt j + 3
 
 -- the four cards, in their order
 abbrev pub cardWords : Question → List ℕ
@@ -58,7 +70,7 @@ cardWords q = upTo (cardAt q) cardsWidth
 
 -- one pair, of category 0, and five that are kept zero
 abbrev pub pairWords : Question → List ℕ
-pairWords q = 0 ∷ q .persons ∷ replicate (pairsWidth - 2) 0
+pairWords q = 0 ∷ q .persons ∷ replicate morePairsWidth 0
 
 -- a leg's words, of which two are kept zero
 abbrev pub legWords : Leg → List ℕ

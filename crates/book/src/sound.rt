@@ -5,21 +5,15 @@ ghost use lib.ListN.{length};
 ghost use mathlib.Core.Bool.{true};
 ghost use Rattle.common.specs.Lists.{every, upTo};
 ghost use Rattle.fares.specs.Question.{cardSlots, cardsDiffer, inLimits};
-ghost use Rattle.book.specs.Words.{capacity, bookLength, startOf, width, questionWidth, questionOf, entryOf, entryAt};
-ghost use Rattle.book.specs.Sound.{isZero, numberInLimits, askedSound, boundOf, isBounded, entrySound, soundWords};
-ghost use Rattle.book.specs.Helpers.{legsClear, unusedZero};
+ghost use Rattle.book.specs.Words.{capacity, startOf, width, questionWidth, questionOf, entryOf, entryAt};
+ghost use Rattle.book.specs.Sound.{numberInLimits, askedSound, boundOf, isBounded, entrySound, soundWords};
 use super::words::ASKED;
 use super::words::CAPACITY;
 use super::words::ENTRIES;
 use super::words::ENTRY_COUNT;
 use super::words::LEG_COUNT;
-use super::words::LEG_WIDTH;
-use super::words::LEGS;
 use super::words::LENGTH;
-use super::words::PAIRS;
 use super::words::PARTS;
-use super::words::PERSONS;
-use super::words::QUESTION_WIDTH;
 use super::words::SEQUENCE;
 use super::words::SPARE;
 use super::words::STATUS;
@@ -43,20 +37,6 @@ pub fn is_number(till: u32, sequence: u64) -> bool
         return false;
     }
     sequence <= 4294967295
-}
-
-// Whether all words are zero: their sum is, which a processor adds up many words at a time.
-fn all_zero(words: &[u32]) -> bool
-    requires { ⌜ length (now words) ≤ bookLength ⌝ }
-    ensures { λ r. ⌜ r ≡ every isZero (now (words .entry)) ⌝ }
-{
-    let mut sum: u64 = 0;
-    let mut k = 0;
-    while k < words.len() {
-        sum += words[k] as u64;
-        k += 1;
-    }
-    sum == 0
 }
 
 fn all_bounded(parts: &[u32], bound: u32) -> bool
@@ -96,44 +76,6 @@ fn bound_of(q: Question) -> u32
     fares::limits::part_bound(q)
 }
 
-// Whether two words of each of the first legs, which are kept zero, are.
-fn legs_clear(words: &[u32], count: usize) -> bool
-    requires { ⌜ (length (now words) ≡ questionWidth) × (count ≤ 8) ⌝ }
-    ensures { λ r. ⌜ r ≡ legsClear (now (words .entry)) count ⌝ }
-{
-    let mut j = 0;
-    while j < count {
-        let at = LEGS + LEG_WIDTH * j;
-        if words[at + 2] != 0 {
-            return false;
-        }
-        if words[at + 3] != 0 {
-            return false;
-        }
-        j += 1;
-    }
-    true
-}
-
-// Whether what a question of so many legs does not use is zero.
-fn unused_zero(words: &[u32], count: usize) -> bool
-    requires { ⌜ (length (now words) ≡ questionWidth) × (count ≤ 8) ⌝ }
-    ensures { λ r. ⌜ r ≡ unusedZero (now (words .entry)) count ⌝ }
-{
-    if words[PAIRS] != 0 {
-        return false;
-    }
-    let pairs = PERSONS + 1;
-    if !all_zero(&words[pairs..LEGS]) {
-        return false;
-    }
-    let legs = LEGS + LEG_WIDTH * count;
-    if !all_zero(&words[legs..QUESTION_WIDTH]) {
-        return false;
-    }
-    legs_clear(words, count)
-}
-
 // Whether words are sound, given the question that they say.
 fn asked_sound(words: &[u32], q: Question) -> bool
     requires { ⌜ (length (now words) ≡ questionWidth) × (q ≡ questionOf (now words)) ⌝ }
@@ -144,7 +86,7 @@ fn asked_sound(words: &[u32], q: Question) -> bool
         return false;
     }
     // the words first: a processor reads a question faster that was not written just before
-    if !unused_zero(words, count) {
+    if !super::words::unused_zero(words, count) {
         return false;
     }
     if !fares::limits::in_limits(q) {
@@ -169,13 +111,13 @@ fn entry_sound(words: &[u32]) -> bool
         return false;
     }
     let first = PARTS + (words[LEG_COUNT] as usize);
-    if !all_zero(&words[first..STATUS]) {
+    if !super::words::all_zero(&words[first..STATUS]) {
         return false;
     }
     if 1 < words[STATUS] {
         return false;
     }
-    all_zero(&words[SPARE..WIDTH])
+    super::words::all_zero(&words[SPARE..WIDTH])
 }
 
 fn entries_sound(book: &[u32], n: usize) -> bool
@@ -212,5 +154,5 @@ pub fn is_sound(book: &[u32]) -> bool
         return false;
     }
     let unused = ENTRIES + count * WIDTH;
-    all_zero(&book[unused..LENGTH])
+    super::words::all_zero(&book[unused..LENGTH])
 }

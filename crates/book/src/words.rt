@@ -2,8 +2,10 @@
 ghost use mathlib.Core.Path.{_≡_};
 ghost use Prim.Native.Nat.{_+_, _≤_, _<_};
 ghost use lib.ListN.{length, take, drop};
-ghost use Rattle.common.specs.Lists.{same};
-ghost use Rattle.book.specs.Words.{questionWidth, legAt, legOf, questionWords, questionOf};
+ghost use Rattle.common.specs.Lists.{every, same};
+ghost use Rattle.book.specs.Words.{questionWidth, bookLength, legAt, legOf, questionWords, questionOf};
+ghost use Rattle.book.specs.Sound.{isZero};
+ghost use Rattle.book.specs.Helpers.{legsClear, unusedZero};
 use fares::Leg;
 use fares::Question;
 
@@ -18,13 +20,15 @@ const CARDS_WIDTH: usize = 4;
 
 const COUNT: usize = CARDS + CARDS_WIDTH;
 
-pub const PAIRS: usize = COUNT + 1;
+const PAIRS: usize = COUNT + 1;
 
-pub const PERSONS: usize = PAIRS + 1;
+const PERSONS: usize = PAIRS + 1;
+
+const MORE_PAIRS: usize = PERSONS + 1;
 
 const PAIRS_WIDTH: usize = 6 * 2;
 
-pub const LEGS: usize = PAIRS + PAIRS_WIDTH;
+const LEGS: usize = PAIRS + PAIRS_WIDTH;
 
 pub const LEG_WIDTH: usize = 4;
 
@@ -154,6 +158,57 @@ pub fn says(words: &[u32], q: Question) -> bool
         k += 1;
     }
     alike as usize == QUESTION_WIDTH
+}
+
+// Whether all words are zero: their sum is, which a processor adds up many words at a time.
+pub fn all_zero(words: &[u32]) -> bool
+    requires { ⌜ length (now words) ≤ bookLength ⌝ }
+    ensures { λ r. ⌜ r ≡ every isZero (now (words .entry)) ⌝ }
+{
+    let mut sum: u64 = 0;
+    let mut k = 0;
+    while k < words.len() {
+        sum += words[k] as u64;
+        k += 1;
+    }
+    sum == 0
+}
+
+// Whether two words of each of the first legs, which are kept zero, are.
+fn legs_clear(words: &[u32], count: usize) -> bool
+    requires { ⌜ (length (now words) ≡ questionWidth) × (count ≤ 8) ⌝ }
+    ensures { λ r. ⌜ r ≡ legsClear (now (words .entry)) count ⌝ }
+{
+    let mut j = 0;
+    while j < count {
+        let at = LEGS + LEG_WIDTH * j;
+        if words[at + 2] != 0 {
+            return false;
+        }
+        if words[at + 3] != 0 {
+            return false;
+        }
+        j += 1;
+    }
+    true
+}
+
+// Whether what a question of so many legs does not use is zero.
+pub fn unused_zero(words: &[u32], count: usize) -> bool
+    requires { ⌜ (length (now words) ≡ questionWidth) × (count ≤ 8) ⌝ }
+    ensures { λ r. ⌜ r ≡ unusedZero (now (words .entry)) count ⌝ }
+{
+    if words[PAIRS] != 0 {
+        return false;
+    }
+    if !all_zero(&words[MORE_PAIRS..LEGS]) {
+        return false;
+    }
+    let legs = LEGS + LEG_WIDTH * count;
+    if !all_zero(&words[legs..QUESTION_WIDTH]) {
+        return false;
+    }
+    legs_clear(words, count)
 }
 
 // The eight words from a place on.

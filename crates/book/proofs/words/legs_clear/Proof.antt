@@ -1,4 +1,4 @@
--- `book::sound::legs_clear` meets its contract. The loop's invariant: the legs passed are clear, so that those left decide.
+-- `book::words::legs_clear` meets its contract. The loop's invariant: the legs passed are clear, so that those left decide.
 -- Assumes nothing.
 use Prim.Native.Nat.{ℕ, _+_, _≤_, _-_}
 use mathlib.Core.Path.{_≡_, refl, sym, _∙_}
@@ -9,8 +9,8 @@ use borrow.Author.Tests.{eq-eqb, ne-eqb}
 use Rattle.common.specs.Lists.{every, upTo}
 use Rattle.common.proofs.Lists.{upto-step, upto-end}
 use Rattle.book.specs.Helpers.{legClear, legsClear}
-use Rattle.book.proofs.sound.legs_clear.Statement.{statement}
-use Rattle.book.proofs.sound.legs_clear.Tie as tie
+use Rattle.book.proofs.words.legs_clear.Statement.{statement}
+use Rattle.book.proofs.words.legs_clear.Tie as tie
 
 abbrev Inv-loop : tie.InvT-loop
 Inv-loop words count j₀ j = (j ≤ count) × (legsClear words count ≡ every (legClear words) (drop j (upTo (λ k. k) count)))

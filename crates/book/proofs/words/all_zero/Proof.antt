@@ -1,4 +1,4 @@
--- `book::sound::all_zero` meets its contract. The loop's invariant: the sum is that of the words passed, each of them small.
+-- `book::words::all_zero` meets its contract. The loop's invariant: the sum is that of the words passed, each of them small.
 -- Assumes nothing.
 use Prim.Native.Nat.{_-_, _*_, _≤_}
 use mathlib.Core.Path.{_≡_, refl, _∙_, ap}
@@ -9,8 +9,8 @@ use lib.Seq.{take-all}
 use Rattle.common.specs.Lists.{sum}
 use Rattle.common.proofs.Sums.{sum-taken, zero-sum}
 use Rattle.book.proofs.SoundBook.{most}
-use Rattle.book.proofs.sound.all_zero.Statement.{statement}
-use Rattle.book.proofs.sound.all_zero.Tie as tie
+use Rattle.book.proofs.words.all_zero.Statement.{statement}
+use Rattle.book.proofs.words.all_zero.Tie as tie
 
 abbrev Inv-loop : tie.InvT-loop
 Inv-loop words total₀ k₀ total k = (k ≤ length words) × (total ≤ k * most) × (total ≡ sum (take k words))

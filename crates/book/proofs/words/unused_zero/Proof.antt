@@ -1,6 +1,6 @@
--- `book::sound::unused_zero` meets its contract.
+-- `book::words::unused_zero` meets its contract.
 -- Assumes nothing.
-use Prim.Native.Nat.{_+_, _-_}
+use Prim.Native.Nat.{_-_}
 use mathlib.Core.Path.{_≡_, _∙_, ap}
 use mathlib.Core.Bool.{true, and-true}
 use native.Mathlib.Omega.{arith}
@@ -10,13 +10,13 @@ use borrow.Author.Needs.{needs}
 use borrow.Author.Tests.{eq-eqb, ne-eqb}
 use Rattle.common.specs.Lists.{every}
 use Rattle.common.proofs.Tests.{fails, holds}
-use Rattle.book.specs.Words.{pairsAt, pairsWidth, railwayAt, questionWidth}
+use Rattle.book.specs.Words.{morePairsAt, morePairsWidth, railwayAt, questionWidth}
 use Rattle.book.specs.Sound.{isZero}
 use Rattle.book.specs.Helpers.{unusedZero}
-use Rattle.book.proofs.sound.unused_zero.Statement.{statement}
-use Rattle.book.proofs.sound.unused_zero.Tie as tie
+use Rattle.book.proofs.words.unused_zero.Statement.{statement}
+use Rattle.book.proofs.words.unused_zero.Tie as tie
 
-pairs-in : (c : tie.Else2) → every isZero (take (pairsWidth - 2) (drop (pairsAt + 2) (c .before .before .before .before .before .before .args .words .now))) ≡ true
+pairs-in : (c : tie.Else2) → every isZero (take morePairsWidth (drop morePairsAt (c .before .before .before .before .before .before .args .words .now))) ≡ true
 pairs-in c = holds (c .before .all-zero .result) (c .if2 .left) (c .before .all-zero .ensures)
 
 -- the words from the first leg that is not used on
@@ -52,6 +52,6 @@ pub unused-zero-spec : {M : Type 1} → statement M
 unused-zero-spec =
     tie.close
     (tie.spec
-    (λ c. search needs) returns (λ c. search needs) (λ c. search needs) (λ c. search needs) (λ c. search needs) (λ c. search needs)
-    (λ c κs. search needs) returns-2 (λ c. search needs) (λ c. search needs) (λ c. search needs) (λ c. search needs)
-    (λ c. search needs) (λ c. search needs) (λ c κs. search needs) returns-3 (λ c κs. search needs) returns-4)
+    (λ c. search needs) returns (λ c. search needs) (λ c. search needs) (λ c. search needs) (λ c κs. search needs) returns-2
+    (λ c. search needs) (λ c. search needs) (λ c. search needs) (λ c. search needs) (λ c. search needs) (λ c. search needs)
+    (λ c κs. search needs) returns-3 (λ c κs. search needs) returns-4)
