@@ -4,9 +4,8 @@ ghost use Prim.Native.Nat.{_+_, _*_, _≤_, _<_};
 ghost use lib.ListN.{length};
 ghost use mathlib.Core.Bool.{true};
 ghost use Rattle.common.specs.Lists.{every, upTo};
-ghost use Rattle.fares.specs.Question.{cardSlots, cardsDiffer, inLimits};
 ghost use Rattle.book.specs.Words.{capacity, startOf, width, questionWidth, questionOf, entryOf, entryAt};
-ghost use Rattle.book.specs.Sound.{numberInLimits, askedSound, boundOf, isBounded, entrySound, soundWords};
+ghost use Rattle.book.specs.Sound.{numberInLimits, askedSound, isBounded, entrySound, soundWords};
 use super::words::ASKED;
 use super::words::CAPACITY;
 use super::words::ENTRIES;
@@ -20,8 +19,6 @@ use super::words::STATUS;
 use super::words::TILL;
 use super::words::WIDTH;
 use fares::Question;
-
-const ONE_CARD_BOUND: u32 = 99197505;
 
 // Whether a sale number is within its limits.
 pub fn is_number(till: u32, sequence: u64) -> bool
@@ -52,30 +49,6 @@ fn all_bounded(parts: &[u32], bound: u32) -> bool
     true
 }
 
-// Whether no card is given twice in a question within its limits: with one card or none there is nothing to compare.
-fn cards_differ(q: Question) -> bool
-    requires { ⌜ inLimits q ≡ true ⌝ }
-    ensures { λ r. ⌜ r ≡ cardsDiffer (cardSlots q) ⌝ }
-{
-    let cards = q.cards;
-    if cards[1] == 0 {
-        return true;
-    }
-    fares::limits::cards_differ(q)
-}
-
-// The bound on the parts of a question within its limits: with one card or none there is nothing to count.
-fn bound_of(q: Question) -> u32
-    requires { ⌜ inLimits q ≡ true ⌝ }
-    ensures { λ r. ⌜ r ≡ boundOf q ⌝ }
-{
-    let cards = q.cards;
-    if cards[1] == 0 {
-        return ONE_CARD_BOUND;
-    }
-    fares::limits::part_bound(q)
-}
-
 // Whether words are sound, given the question that they say.
 fn asked_sound(words: &[u32], q: Question) -> bool
     requires { ⌜ (length (now words) ≡ questionWidth) × (q ≡ questionOf (now words)) ⌝ }
@@ -92,7 +65,7 @@ fn asked_sound(words: &[u32], q: Question) -> bool
     if !fares::limits::in_limits(q) {
         return false;
     }
-    cards_differ(q)
+    fares::limits::cards_differ(q)
 }
 
 // Whether the words of an entry are sound.
@@ -107,7 +80,7 @@ fn entry_sound(words: &[u32]) -> bool
     if !asked_sound(&words[ASKED..PARTS], q) {
         return false;
     }
-    if !all_bounded(&words[PARTS..STATUS], bound_of(q)) {
+    if !all_bounded(&words[PARTS..STATUS], fares::limits::part_bound(q)) {
         return false;
     }
     let first = PARTS + (words[LEG_COUNT] as usize);

@@ -2,16 +2,16 @@
 -- Assumes nothing.
 use Prim.Native.Nat.{ℕ, zero, suc, _+_, _≤_, _<_, zero-le, suc-le-suc}
 use mathlib.Core.Path.{_≡_, refl, sym, _∙_}
-use mathlib.Core.Bool.{Bool, true, false, cond, not, _&&_, _||_}
+use mathlib.Core.Bool.{Bool, true, false, cond, not, _&&_, _||_, and-true}
 use mathlib.Core.List.{List, [], _∷_}
 use native.Mathlib.Nat.{le-of-suc-le-suc, not-suc-le-zero}
 use native.Mathlib.Numerals.{add-one}
 use native.Mathlib.Omega.{arith}
 use lib.Dec.{eqb, leb}
-use lib.ListN.{length, getD, drop, drop-of-length-le}
-use lib.Seq.{drop-cons}
-use borrow.Author.Tests.{eqb-true, eq-eqb, leb-true, le-leb, not-true}
-use Rattle.common.specs.Lists.{every, any, only}
+use lib.ListN.{length, getD, drop, length-drop, drop-of-length-le}
+use lib.Seq.{drop-cons, getD-drop, ext-getD}
+use borrow.Author.Tests.{eqb-true, eq-eqb, ne-eqb, leb-true, le-leb, not-true}
+use Rattle.common.specs.Lists.{every, any, only, firstOf}
 use Rattle.common.proofs.Tests.{never, both-true, refuted}
 use Rattle.common.proofs.Lists.{any-at, at-any, first-length, first-at}
 use Rattle.fares.specs.Question.{isGiven, cardSlots, cardsInLimits, cardsDiffer}
@@ -163,3 +163,82 @@ module _ (cs : List ℕ) (k : ℕ) (l : k < length cs) where
 -- and behind the last slot
 pub none-behind : (cs : List ℕ) (k : ℕ) → length cs ≤ k → drop k cs ≡ []
 none-behind cs k l = drop-of-length-le cs l
+
+-- ONE CARD AT MOST, where no other slot is used
+pub further-slots : (cards : List ℕ) → drop 1 (firstOf 0 4 cards) ≡ getD cards 1 0 ∷ getD cards 2 0 ∷ getD cards 3 0 ∷ []
+further-slots cards =
+    ext-getD 0 (drop 1 (firstOf 0 4 cards)) (getD cards 1 0 ∷ getD cards 2 0 ∷ getD cards 3 0 ∷ []) long
+    (λ k l. let m : 1 + k < 4 = omega (arith, long) in getD-drop 1 (firstOf 0 4 cards) k 0 ∙ (first-at 0 4 cards (1 + k) m ∙ at k m))
+  where
+    long : length (drop 1 (firstOf 0 4 cards)) ≡ 3
+    long = length-drop 1 (firstOf 0 4 cards) ∙ omega (arith, first-length 0 4 cards)
+
+    at : (k : ℕ) → 1 + k < 4 → getD cards (1 + k) 0 ≡ getD (getD cards 1 0 ∷ getD cards 2 0 ∷ getD cards 3 0 ∷ []) k 0
+    at zero l = refl
+    at (suc zero) l = refl
+    at (suc (suc zero)) l = refl
+    at (suc (suc (suc k))) l = absurd (omega arith)
+
+pub turned : (c : ℕ) → eqb c 0 ≡ eqb 0 c
+turned c = go (eqb c 0) refl
+  where
+    go : (t : Bool) → eqb c 0 ≡ t → t ≡ eqb 0 c
+    go true e = sym (eq-eqb 0 c (sym (eqb-true c 0 e)))
+    go false e = sym (ne-eqb 0 c (λ h. never (eq-eqb c 0 (sym h)) e))
+
+none-given : (xs : List ℕ) → every (eqb 0) xs ≡ true → only isGiven xs ≡ []
+unfolding every only
+none-given [] h = refl
+none-given (x ∷ xs) h =
+    let b = both-true (eqb 0 x) (every (eqb 0) xs) h in
+    rw (eq-eqb x 0 (sym (eqb-true 0 x (b .0)))) (none-given xs (b .1))
+
+module _ (c : ℕ) (rest : List ℕ) (e : every (eqb 0) rest ≡ true) where
+  abbrev alone : Tidy rest
+  alone =
+      record {
+        small = λ k l. rw (none-used rest e k l) (omega arith);
+        used-first = λ j k m l f. none-used rest e k l;
+      }
+
+  pub one-limits : cardsInLimits (c ∷ rest) ≡ leb c 999
+  unfolding cardsInLimits
+  one-limits = rw (in-limits rest alone, e) (go (isGiven c))
+    where
+      go : (b : Bool) → (leb c 999 && cond b true true) ≡ leb c 999
+      go true = and-true (leb c 999)
+      go false = and-true (leb c 999)
+
+  pub one-differs : cardsDiffer (c ∷ rest) ≡ true
+  one-differs = differs (c ∷ rest) by-slot
+    where
+      by-slot : Differ (c ∷ rest)
+      by-slot j zero m l f = absurd (not-suc-le-zero m)
+      by-slot zero (suc k) m l f = f ∙ none-used rest e k (le-of-suc-le-suc l)
+      by-slot (suc j) (suc k) m l f = f ∙ none-used rest e k (le-of-suc-le-suc l)
+
+  pub one-counts : length (only isGiven (c ∷ rest)) ≤ 1
+  unfolding only
+  one-counts = rw (none-given rest e) (go (isGiven c))
+    where
+      go : (b : Bool) → length (cond b (c ∷ []) []) ≤ 1
+      go true = omega arith
+      go false = omega arith
+
+-- and where another is used, there is a card
+some-given : (xs : List ℕ) → every (eqb 0) xs ≡ false → 0 < length (only isGiven xs)
+unfolding every only
+some-given [] e = never refl e
+some-given (x ∷ xs) e = rw (turned x) (go (eqb 0 x) refl (some-given xs))
+  where
+    go : (z : Bool) → eqb 0 x ≡ z → (every (eqb 0) xs ≡ false → 0 < length (only isGiven xs)) → 0 < length (cond (not z) (x ∷ only isGiven xs) (only isGiven xs))
+    go true z h = h (rw z at e)
+    go false z h = suc-le-suc zero-le
+
+pub more-counts : (c : ℕ) (rest : List ℕ) → every (eqb 0) rest ≡ false → 1 ≤ length (only isGiven (c ∷ rest))
+unfolding only
+more-counts c rest e = go (isGiven c) (some-given rest e)
+  where
+    go : (b : Bool) → 0 < length (only isGiven rest) → 1 ≤ length (cond b (c ∷ only isGiven rest) (only isGiven rest))
+    go true h = suc-le-suc zero-le
+    go false h = h

@@ -1,6 +1,6 @@
 -- One step and a chain of steps: at most 998 cents are added a step; a smaller amount and a larger discount give no more.
 -- Assumes nothing.
-use Prim.Native.Nat.{ℕ, _+_, _-_, _*_, _≤_}
+use Prim.Native.Nat.{ℕ, zero, suc, _+_, _-_, _*_, _≤_}
 use mathlib.Core.Path.{_≡_, refl}
 use mathlib.Core.Bool.{Bool, true, false, cond}
 use mathlib.Core.List.{List, [], _∷_}
@@ -96,6 +96,12 @@ greater-is a b = go (leb a b) refl
     go : (t : Bool) → leb a b ≡ t → (a ≤ cond t b a) × (b ≤ cond t b a)
     go true e = (leb-true a b e, le-refl b)
     go false e = (le-refl a, omega (arith, leb-false a b e))
+
+-- one card is always counted
+pub bound-of-one : (cards : ℕ) → cards ≤ 1 → 99197505 ≡ partBound cards
+bound-of-one zero l = refl
+bound-of-one (suc zero) l = refl
+bound-of-one (suc (suc n)) l = absurd (omega arith)
 
 -- the bound grows with the cards
 pub bound-grows : (a b : ℕ) → a ≤ b → partBound a ≤ partBound b

@@ -42,6 +42,19 @@ fn legs_in_limits(legs: [Leg; 8], count: usize) -> bool
     true
 }
 
+// Whether one card is given at most: no slot but the first is used.
+fn one_at_most(cards: [u32; 4]) -> bool
+    ensures { λ r. ⌜ r ≡ every (eqb 0) (drop 1 (firstOf 0 4 cards)) ⌝ }
+{
+    if cards[1] != 0 {
+        return false;
+    }
+    if cards[2] != 0 {
+        return false;
+    }
+    cards[3] == 0
+}
+
 // Whether no slot from one on is used.
 fn none_from(cards: [u32; 4], first: usize) -> bool
     requires { ⌜ first ≤ 4 ⌝ }
@@ -60,6 +73,9 @@ fn none_from(cards: [u32; 4], first: usize) -> bool
 fn cards_in_limits(cards: [u32; 4]) -> bool
     ensures { λ r. ⌜ r ≡ cardsInLimits (firstOf 0 4 cards) ⌝ }
 {
+    if one_at_most(cards) {
+        return cards[0] <= 999;
+    }
     let mut k = 0;
     while k < 4 {
         let card = cards[k];
@@ -117,6 +133,9 @@ pub fn cards_differ(q: Question) -> bool
     ensures { λ r. ⌜ r ≡ cardsDiffer (cardSlots q) ⌝ }
 {
     let cards = q.cards;
+    if one_at_most(cards) {
+        return true;
+    }
     let mut k = 0;
     while k < 4 {
         let card = cards[k];
@@ -149,9 +168,9 @@ fn card_count(q: Question) -> u32
 pub fn part_bound(q: Question) -> u32
     ensures { λ r. ⌜ r ≡ partBound (length (cardsOf q)) ⌝ }
 {
-    let cards = card_count(q);
-    if cards < 1 {
+    let cards = q.cards;
+    if one_at_most(cards) {
         return 99 * (999999 + 998 * 2);
     }
-    99 * (999999 + 998 * (1 + cards))
+    99 * (999999 + 998 * (1 + card_count(q)))
 }

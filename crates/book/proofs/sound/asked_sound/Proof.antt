@@ -56,4 +56,4 @@ asked-sound-spec =
     tie.close
     (tie.spec
     (λ c. search needs) returns (λ c κs. search needs) returns-2 (λ c κs. search needs) returns-3
-    (λ c κs. holds (c .before .in-limits .result) (c .if3 .left) (c .before .in-limits .ensures)) returns-4)
+    (λ c κs. search needs) returns-4)

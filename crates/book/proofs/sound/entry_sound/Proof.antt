@@ -10,11 +10,10 @@ use borrow.Author.Needs.{needs}
 use borrow.Author.Tests.{le-leb, lt-leb}
 use Rattle.common.specs.Lists.{every}
 use Rattle.common.proofs.Tests.{fails, holds}
-use Rattle.fares.specs.Question.{inLimits}
 use Rattle.book.specs.Words.{Entry, countAt, askedAt, sequenceAt, questionOf, entryOf}
 use Rattle.book.specs.Sound.{isZero, numberInLimits, askedSound, boundOf, isBounded, entrySound}
 use Rattle.book.proofs.EntryWords.{count-at, unused-parts}
-use Rattle.book.proofs.SoundBook.{asked-limits, few-legs}
+use Rattle.book.proofs.SoundBook.{few-legs}
 use Rattle.book.proofs.sound.entry_sound.Statement.{statement}
 use Rattle.book.proofs.sound.entry_sound.Tie as tie
 
@@ -41,13 +40,10 @@ asked-in c = holds (c .before .asked-sound .result) (c .if2 .left) (c .before .a
 bounded : (c : tie.After-all-bounded) → let e = past-asked (c .before .before .before) in c .all-bounded .result ≡ isBounded (boundOf (questionOf (e .asked))) (e .parts)
 bounded c =
     let a = c .before .before .before in
-    c .all-bounded .ensures ∙ ap (λ b. isBounded b (past-asked a .parts)) (c .before .bound-of .ensures ∙ ap boundOf (a .before .before .before .question-in .ensures))
+    c .all-bounded .ensures ∙ ap (λ b. isBounded b (past-asked a .parts)) (c .before .part-bound .ensures ∙ ap boundOf (a .before .before .before .question-in .ensures))
 
 bounded-in : (c : tie.Else3) → let e = past-bounded c in isBounded (boundOf (questionOf (e .asked))) (e .parts) ≡ true
 bounded-in c = holds (c .before .all-bounded .result) (c .if3 .left) (bounded (c .before))
-
-limits-in : (c : tie.After-all-bounded-arg) → inLimits (c .before .before .before .before .question-in .result) ≡ true
-limits-in c = let a = c .before in rw (a .before .before .before .question-in .ensures) (asked-limits (past-asked a .asked) (asked-in a))
 
 few : (c : tie.Else2) → getD (words-at c) (askedAt + countAt) 0 ≤ 8
 few c = rw (count-at (words-at c)) at (few-legs (past-asked c .asked) (asked-in c))
@@ -101,7 +97,7 @@ entry-sound-spec =
     (λ c. search needs) (λ c. search needs) (λ c. omega (arith, c .shared-slice-known3 .given sequenceAt)) (λ c κs. search needs) returns
     (λ c. search needs) (λ c. search needs) (λ c. search needs) (λ c κs. search needs) (λ c. search needs) (λ c. search needs)
     (λ c. search needs) (λ c κs. search needs) returns-2 (λ c. search needs) (λ c. search needs) (λ c. search needs)
-    (λ c κs. limits-in c) (λ c κs. search needs) returns-3 (λ c. search needs) (λ c. omega (arith, few (c .before .before .before .before .before)))
+    (λ c κs. search needs) (λ c κs. search needs) returns-3 (λ c. search needs) (λ c. omega (arith, few (c .before .before .before .before .before)))
     (λ c. omega (arith, few (c .before .before .before .before .before))) (λ c. omega (arith, few (c .before .before .before .before .before)))
     (λ c. omega (arith, few (c .before .before .before .before .before))) (λ c. omega (arith, few (c .before .before .before .before .before)))
     (λ c. search needs) (λ c κs. search needs) returns-4 (λ c. search needs) returns-5 (λ c. search needs) (λ c. search needs)
