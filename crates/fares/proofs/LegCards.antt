@@ -12,7 +12,7 @@ use lib.ListN.{length, getD, take, drop, set, replicate, length-map, length-appe
 use lib.Seq.{drop-cons, take-append-seam, drop-append-add, set-at, getD-at, getD-take}
 use borrow.Author.Tests.{leb-true, le-leb, lt-ltb, le-ltb}
 use Rattle.common.specs.Lists.{every, only}
-use Rattle.common.specs.Rising.{insert, insertAll}
+use Rattle.common.specs.Rising.{insert, insertAll, rising}
 use Rattle.common.proofs.Lists.{every-at}
 use Rattle.common.proofs.Only.{only-few}
 use Rattle.common.proofs.Sums.{map-at}
@@ -192,6 +192,14 @@ module _ (s : List ℕ) (cards : Cards) (few : cards .count ≤ 4) (long : lengt
   card-body-at k l =
       map-at (bodyAt s) (placesIn cards) k [] 0 (omega (arith, length-take (cards .count) (cards .at))) ∙ ap (bodyAt s) (getD-take (cards .count) (cards .at) k 0 l)
 
+-- of one record
+pub one-body : (s : List ℕ) (cards : Cards) → cards .count ≡ 1 → length (cards .at) ≡ 4 → bodiesAt s (placesIn cards) ≡ bodyAt s (getD (cards .at) 0 0) ∷ []
+one-body s cards e long = rw e (go (cards .at) long)
+  where
+    go : (at : List ℕ) → length at ≡ 4 → map (bodyAt s) (take 1 at) ≡ bodyAt s (getD at 0 0) ∷ []
+    go [] l = absurd (omega (arith, l))
+    go (p ∷ at) l = refl
+
 -- THE RECORDS APPLIED ALONE: the least so far, and those yet to come
 module _ (amount : ℕ) (ars : List (List ℕ)) (k : ℕ) (l : k < length ars) where
   abbrev at : List ℕ
@@ -230,6 +238,16 @@ after-small amount ars =
     by (x ∷ row) l others m = le-trans (least-first (afterAll amount (x ∷ row)) _) (omega (arith, after-all-small amount (x ∷ row)))
     by [] l [] m = omega arith
     by [] l (y ∷ others) m = le-trans (least-first (reduceBy amount (cardGrants y)) _) (omega (arith, step-small (cardGrants y) (card-small y) amount))
+
+-- one record is the one choice, whichever its flag is
+pub one-choice : (amount : ℕ) (ar : List ℕ) → afterCards amount (ar ∷ []) ≡ reduceBy amount (cardGrants ar)
+unfolding afterCards leastFrom only insertAll insert reduceAll
+one-choice amount ar = go (isTogether ar)
+  where
+    go : (b : Bool) → leastOr amount (ifAny amount (rising rankOf (cond b (ar ∷ []) [])) ++ map (λ ar. reduceBy amount (cardGrants ar)) (cond (not b) (ar ∷ []) []))
+        ≡ reduceBy amount (cardGrants ar)
+    go true = refl
+    go false = refl
 
 -- the first of some that are all applied alone
 first-alone : (amount : ℕ) (ar : List ℕ) (rest : List (List ℕ)) (b : Bool) → isTogether ar ≡ b → length (only isTogether (ar ∷ rest)) ≡ 0

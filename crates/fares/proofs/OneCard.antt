@@ -10,7 +10,7 @@ use lib.ListN.{length, getD, replicate}
 use lib.Seq.{ext-getD}
 use borrow.Author.Tests.{le-leb}
 use Rattle.common.specs.Lists.{every, any, only}
-use Rattle.common.specs.Rising.{insert, insertAll, rising}
+use Rattle.common.specs.Rising.{insertAll}
 use Rattle.common.specs.Checks.{firstFault}
 use Rattle.common.proofs.Lists.{first-length, first-at}
 use Rattle.common.proofs.Checks.{fault-append}
@@ -23,13 +23,14 @@ use Rattle.bundle.specs.declared.choice.Choice.{Choice}
 use Rattle.bundle.specs.declared.choice.Choice.the-variants.{At, NotThatDay, Nothing}
 use Rattle.fares.specs.Question.{between, legsOf, isGiven, cardSlots, cardsOf, cardsInLimits, cardsDiffer, inLimits}
 use Rattle.fares.specs.Reductions.{conditionsGrant, cardGrants, reduceBy, reduceAll, partBound}
-use Rattle.fares.specs.Cards.{isTogether, rankOf, ifAny, leastFrom, leastOr, afterCards}
+use Rattle.fares.specs.Cards.{afterCards}
 use Rattle.fares.specs.Legs.{wantedFor, conditionsFor, found, bodies, bodyOf, cardFor, cardsFor, partBy, partOf}
 use Rattle.fares.specs.Fare.{partsOf, priceChecks, fareChecks, fareOf}
 use Rattle.fares.specs.Meaning.{cardAt}
 use Rattle.fares.specs.OneCard.{OneCard, baseInLimits, basePart, baseParts, basePrice, baseChecks, baseFare, baseBound}
 use Rattle.fares.specs.declared.Leg.{Leg}
 use Rattle.fares.specs.declared.Question.{Question}
+use Rattle.fares.proofs.LegCards.{one-choice}
 
 -- the first slot decides
 by-first : (c : ℕ) → cardsInLimits (c ∷ 0 ∷ 0 ∷ 0 ∷ []) ≡ between 0 999 c
@@ -83,17 +84,11 @@ module _ (q : Question) (o : OneCard q) where
     one-found = rw slots-are (append-nil (found (cardFor R q leg (cardAt q 0))))
 
     -- it is the one choice whichever its flag is,
-    one-choice : (amount : ℕ) (c : Choice) → afterCards amount (bodies R (found c)) ≡ reduceAll amount (map cardGrants (bodies R (found c)))
-    unfolding afterCards leastFrom only insertAll insert reduceAll
-    one-choice amount (At i) = go (isTogether (getD R i noRec .body))
-      where
-        go : (b : Bool) → let ar = getD R i noRec .body in
-            leastOr amount (ifAny amount (rising rankOf (cond b (ar ∷ []) [])) ++ map (λ ar. reduceBy amount (cardGrants ar)) (cond (not b) (ar ∷ []) []))
-            ≡ reduceBy amount (cardGrants ar)
-        go true = refl
-        go false = refl
-    one-choice amount NotThatDay = refl
-    one-choice amount Nothing = refl
+    one-left : (amount : ℕ) (c : Choice) → afterCards amount (bodies R (found c)) ≡ reduceAll amount (map cardGrants (bodies R (found c)))
+    unfolding afterCards only insertAll reduceAll
+    one-left amount (At i) = one-choice amount (getD R i noRec .body)
+    one-left amount NotThatDay = refl
+    one-left amount Nothing = refl
 
     -- and so is the part
     part-is : partOf R q leg ≡ basePart R q leg
@@ -108,8 +103,8 @@ module _ (q : Question) (o : OneCard q) where
 
         go : (y : Bool) → afterCards amount (bodies R (cond y (cardsFor R q leg) []))
             ≡ reduceAll amount (map cardGrants (bodies R (found (cond (y && isGiven (cardAt q 0)) (choiceOf R (wantedFor AR (cardAt q 0) q leg)) Nothing))))
-        go true = rw one-found (one-choice amount (cardFor R q leg (cardAt q 0)))
-        go false = one-choice amount Nothing
+        go true = rw one-found (one-left amount (cardFor R q leg (cardAt q 0)))
+        go false = one-left amount Nothing
 
   pub parts-are : (R : List Rec) → partsOf R q ≡ baseParts R q
   unfolding partsOf baseParts

@@ -140,9 +140,12 @@ pub fn after_cards(bundle: &[u8], cards: Cards, amount: u64) -> u64
     if cards.count == 0 {
         return amount;
     }
+    let at = cards.at;
+    if cards.count == 1 {
+        return after_alone(bundle, at[0], amount);
+    }
     let row = together(bundle, cards);
     if row.count == 0 {
-        let at = cards.at;
         return least_alone(bundle, cards, amount, after_alone(bundle, at[0], amount));
     }
     least_alone(bundle, cards, amount, after_row(row, amount))
