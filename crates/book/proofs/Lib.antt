@@ -13,3 +13,4 @@ pub mod TotalIsSum
 pub mod EntryMeaning
 pub mod BookMeaning
 pub mod OneCard
+pub mod Places

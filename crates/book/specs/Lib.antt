@@ -2,6 +2,7 @@ pub mod Words
 pub mod Sound
 pub mod Meaning
 pub mod OneCard
+pub mod Places
 pub mod Due
 pub mod SameQuestion
 pub mod Changes

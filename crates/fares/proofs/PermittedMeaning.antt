@@ -134,6 +134,10 @@ module _ (s : List ℕ) (R : List Rec) (g : Good s R) (q : Question) (leg : Leg)
   permitted-grants (alone {i} a) zero m = applying-grants i (a .applies)
   permitted-grants (alone {i} a) (suc k) m = absurd (not-suc-le-zero (le-of-suc-le-suc m))
 
+  -- so that each such choice leaves an amount
+  pub leaves-some : {is : List ℕ} → Allowed is → (before : ℕ) → (left : ℕ) × After R q leg is before left
+  leaves-some {is} p before = (leaves R q leg before is, after-is R q leg is (permitted-grants p) before)
+
   -- each of those alone is permitted, and is a choice
   single-permitted : (k : ℕ) → k < length (singles R q leg co) → Allowed (getD (singles R q leg co) k [])
   single-permitted k l =
@@ -181,10 +185,10 @@ module _ (s : List ℕ) (R : List Rec) (g : Good s R) (q : Question) (leg : Leg)
         go [] p = p
         go (j ∷ js) p = (suc (p .0), suc-le-suc (p .1), p .2)
 
-    -- a record that applies has one,
-    applying-permitted : (i : ℕ) → Applies R q leg co i → (is : List ℕ) × Allowed is
+    -- a record that applies stands in one,
+    pub applying-permitted : (i : ℕ) → Applies R q leg co i → (is : List ℕ) × Allowed is × Stands 0 is i
     applying-permitted i a =
-        ⊎-elim (λ y. let p = whole-row .all i y in (row, together whole-row (omega (arith, p .1)))) (λ n. (single i, alone n))
+        ⊎-elim (λ y. let p = whole-row .all i y in (row, together whole-row (omega (arith, p .1)), p)) (λ n. (single i, alone n, (0, suc-le-suc zero-le, refl)))
         (says-one s R g q leg co i a)
 
     -- and none leaves less than the least

@@ -43,7 +43,7 @@ use Rattle.bundle.proofs.Computed.{verdict-figures-hold}
 use Rattle.fares.specs.Rounding.{IsRounded}
 use Rattle.fares.specs.Fare.{partsOf, fareOf}
 use Rattle.fares.specs.Question.{cardSlots, cardsOf, cardsDiffer, inLimits}
-use Rattle.fares.specs.Reductions.{greater, partBound}
+use Rattle.fares.specs.Reductions.{greater}
 use Rattle.fares.specs.Meaning.{cardAt, InLimits, CardsDiffer, Applies, AllTogether, Permitted, After, AfterCards, LegFare, IsFare, NoFare}
 use Rattle.fares.specs.OneCard.{OneCard, baseFare}
 use Rattle.fares.specs.Figures as fares
@@ -53,15 +53,16 @@ use Rattle.fares.specs.declared.Pricing.the-variants.{Priced, Refused}
 use Rattle.fares.proofs.RoundLaws.{nothing-left}
 use Rattle.fares.proofs.RecordMeaning.{rounded-only}
 use Rattle.fares.proofs.RecordsApplied.{order-only}
-use Rattle.fares.proofs.PermittedMeaning.{not-above, by-one, one-amount}
+use Rattle.fares.proofs.PermittedMeaning.{not-above, by-one, one-amount, leaves-some, applying-permitted}
 use Rattle.fares.proofs.QuestionLimits.{limits-mean, means-limits}
 use Rattle.fares.proofs.CardSlots.{differ-means, means-differ}
 use Rattle.fares.proofs.Meaning.{fare-means, means-fare, no-fare-means, means-no-fare, part-bounded}
 use Rattle.fares.proofs.OneCard.{fare-is}
 use Rattle.fares.proofs.Computed.{fare-figures-hold}
-use Rattle.book.specs.Words.{Entry, countOf, entryAt, entries, questionOf}
+use Rattle.book.specs.Words.{Entry, cardsAt, countOf, entryAt, entries, questionOf}
 use Rattle.book.specs.Due.{carriedBy, anyLeg, dueIn}
-use Rattle.book.specs.Meaning.{Sound, Holds}
+use Rattle.book.specs.Meaning.{askedWord, cardsIn, Sound, Holds}
+use Rattle.book.specs.Places.{given, Places, Says}
 use Rattle.book.specs.SameQuestion.{SameQuestion}
 use Rattle.book.specs.Sound.{soundWords}
 use Rattle.book.specs.OneCard.{OneCardBook, baseSound}
@@ -69,6 +70,7 @@ use Rattle.book.proofs.BookMeaning.{sound-means, means-sound}
 use Rattle.book.proofs.AmountsAreDue.{balance-due, total-due}
 use Rattle.book.proofs.TotalIsSum.{total-is-sum}
 use Rattle.book.proofs.OneCard.{base-means, means-base}
+use Rattle.book.proofs.Places.{the-places, entry-says, question-cards, entry-cards}
 use Rattle.sales.specs.Sales.{saleAnswer, saleWords, cancelAnswer, cancelWords}
 use Rattle.sales.specs.Balances.{balanceAnswer, totalAnswer}
 use Rattle.sales.specs.OneCard.{OneCardOps, baseAfter, baseSale, baseSaleWords, baseCancel, baseCancelWords, baseBalance, baseTotal}
@@ -183,11 +185,24 @@ module _ {R : List Rec} {q : Question} {leg : Leg} {part : ℕ} (l : LegFare R q
   no-permitted-choice-is-cheaper choice left p a =
       rw (l .times-persons) (mul-le-mul-right (q .persons) (not-above R q leg co (l .by-cards) choice left p a))
 
+  pub no-permitted-choice-leaves-a-person-less : (choice : List ℕ) (left : ℕ) → Permitted R q leg co choice → After R q leg choice (l .amount) left → l .last ≤ left
+  no-permitted-choice-leaves-a-person-less choice left p a = not-above R q leg co (l .by-cards) choice left p a
+
   pub a-part-is-by-a-permitted-choice : (((i : ℕ) → Applies R q leg co i → ⊥) × (part ≡ l .amount * q .persons))
       ⊎ ((choice : List ℕ) × (left : ℕ) × Permitted R q leg co choice × After R q leg choice (l .amount) left × (part ≡ left * q .persons))
   a-part-is-by-a-permitted-choice =
       ⊎-elim (λ n. inl (n .0, l .times-persons ∙ ap (_* q .persons) (n .1))) (λ c. inr (c .0, l .last, c .1, c .2, l .times-persons))
       (by-one R q leg co (l .by-cards))
+
+-- Nothing that applies is left out: in a bundle that keeps the rules a record that applies stands in a choice that is permitted, and each such choice leaves an
+-- amount.
+module _ (bundle : List ℕ) (R : List Rec) (good : Good bundle R) (q : Question) (leg : Leg) (co : List ℕ) where
+  pub what-applies-stands-in-a-permitted-choice : CardsDiffer q → (i : ℕ) → Applies R q leg co i
+      → (choice : List ℕ) × Permitted R q leg co choice × ((k : ℕ) × (k < length choice) × (getD choice k 0 ≡ i))
+  what-applies-stands-in-a-permitted-choice = applying-permitted bundle R good q leg co
+
+  pub a-permitted-choice-leaves-an-amount : {choice : List ℕ} → Permitted R q leg co choice → (before : ℕ) → (left : ℕ) × After R q leg choice before left
+  a-permitted-choice-leaves-an-amount = leaves-some bundle R good q leg co
 
 -- There is one order of the records with Y, and one amount after the cards.
 pub the-records-together-have-one-order : (R : List Rec) (q : Question) (leg : Leg) (co : List ℕ) {is js : List ℕ} → AllTogether R q leg co is → AllTogether R q leg co js
@@ -229,9 +244,14 @@ pub a-part-is-bounded : (bundle : List ℕ) (R : List Rec) (q : Question) (fare 
     → (k : ℕ) → getD parts k 0 ≤ 99 * (999999 + 998 * (1 + greater 1 (length (cardsOf q))))
 a-part-is-bounded = part-bounded
 
-pub the-bounds-by-the-cards : upTo partBound 5 ≡ 99197505 ∷ 99197505 ∷ 99296307 ∷ 99395109 ∷ 99493911 ∷ []
+pub the-bounds-by-the-cards : upTo (λ cards. 99 * (999999 + 998 * (1 + greater 1 cards))) 5 ≡ 99197505 ∷ 99197505 ∷ 99296307 ∷ 99395109 ∷ 99493911 ∷ []
 unfolding upTo
 the-bounds-by-the-cards = refl
+
+-- A question's cards are counted slot by slot.
+pub the-cards-of-a-question-are-counted : (q : Question)
+    → length (cardsOf q) ≡ given (cardAt q 0) + (given (cardAt q 1) + (given (cardAt q 2) + given (cardAt q 3)))
+the-cards-of-a-question-are-counted = question-cards
 
 -- THE FIGURES: of the layout and the calendar, of verdicts, and of fares.
 pub the-figures-of-the-layout-hold : (x : layout.Figure) → List·Memᴰ x layout.figures → layout.Says x
@@ -246,6 +266,18 @@ the-figures-of-fares-hold = fare-figures-hold
 -- DEMAND 1, a book. It is sound exactly if each of its values is as it should be; and one that is not is refused by every call, with 21.
 pub a-sound-book : (book : List ℕ) → (soundWords book ≡ true) ↔ Sound book
 a-sound-book book = (sound-means book, means-sound book)
+
+-- By these words a sound book is said, and so is what an entry says: a book that is stored has each value where it always had it, and the cards of a sale in
+-- their order. Its cards are counted word by word.
+pub the-places-of-a-book : Places
+the-places-of-a-book = the-places
+
+pub an-entry-says-its-words : (book : List ℕ) (i : ℕ) → Says book i (entryAt book i)
+an-entry-says-its-words = entry-says
+
+pub the-cards-of-an-entry-are-counted : (ws : List ℕ) → cardsIn ws
+    ≡ given (askedWord ws cardsAt) + (given (askedWord ws (cardsAt + 1)) + (given (askedWord ws (cardsAt + 2)) + given (askedWord ws (cardsAt + 3))))
+the-cards-of-an-entry-are-counted = entry-cards
 
 module _ (book : List ℕ) (unsound : Sound book → ⊥) where
   pub an-unsound-book-sells-nothing : (till sequence : ℕ) (bundle : List ℕ) (q : Question)
