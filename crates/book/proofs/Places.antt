@@ -14,10 +14,11 @@ use Rattle.fares.specs.Question.{noLeg, isGiven, cardSlots, cardsOf}
 use Rattle.fares.specs.Meaning.{cardAt}
 use Rattle.fares.specs.declared.Leg.{Leg}
 use Rattle.fares.specs.declared.Question.{Question}
-use Rattle.book.specs.Words.{Entry, offerAt, dayAt, cardsAt, countAt, personsAt, railwayAt, fareAt, tillAt, sequenceAt, askedAt, partsAt, statusAt, width, questionWidth, startOf, legOf, questionOf, entryWords, entryAt}
+use Rattle.book.specs.Words.{Entry, noEntry, offerAt, dayAt, cardsAt, countAt, personsAt, railwayAt, fareAt, tillAt, sequenceAt, askedAt, partsAt, statusAt, width, questionWidth, startOf, legOf, questionOf, entryWords, entryAt, entries}
 use Rattle.book.specs.Meaning.{askedWord, cardsIn}
-use Rattle.book.specs.Places.{given, Places, at, Says}
+use Rattle.book.specs.Places.{given, Places, at, Says, Kept}
 use Rattle.book.proofs.EntryWords.{word-at, part-at, asked-at, card-at, count-at}
+use Rattle.book.proofs.SoundBook.{entry-is, entries-length}
 
 pub the-places : Places
 the-places =
@@ -76,6 +77,15 @@ module _ (book : List ℕ) (i : ℕ) where
         parts = λ k l. part-at ws k l ∙ here (partsAt + k) (53 + k) (omega arith) (omega arith);
         status = here statusAt 61 (omega arith) refl;
       }
+
+pub book-kept : (book : List ℕ) → Kept book
+book-kept book =
+    record {
+      count = refl;
+      words = λ i p l. here book i p p l refl;
+      as-many = entries-length book;
+      each = λ i l. rw (entry-is book i l) (entry-says book i);
+    }
 
 -- HOW MANY CARDS: one for each slot of four that is used
 counted : (x : ℕ) (xs : List ℕ) → length (only isGiven (x ∷ xs)) ≡ given x + length (only isGiven xs)

@@ -5,10 +5,10 @@ use mathlib.Core.Path.{_≡_}
 use mathlib.Core.Bool.{cond}
 use mathlib.Core.List.{List}
 use lib.Dec.{eqb}
-use lib.ListN.{getD}
+use lib.ListN.{length, getD}
 use Rattle.fares.specs.Question.{noLeg}
 use Rattle.fares.specs.Meaning.{cardAt}
-use Rattle.book.specs.Words.{Entry, offerAt, dayAt, cardsAt, countAt, personsAt, railwayAt, fareAt, tillAt, sequenceAt, askedAt, partsAt, statusAt, width, bookLength, startOf, questionOf}
+use Rattle.book.specs.Words.{Entry, noEntry, offerAt, dayAt, cardsAt, countAt, personsAt, railwayAt, fareAt, tillAt, sequenceAt, askedAt, partsAt, statusAt, width, bookLength, startOf, countOf, entryWords, entries, questionOf}
 
 -- a card counts one, and none counts nothing
 abbrev pub given : ℕ → ℕ
@@ -47,3 +47,10 @@ pub record Says (book : List ℕ) (i : ℕ) (e : Entry) : Type 0 where
   pub fares : (k : ℕ) → k < 8 → getD (questionOf (e .asked) .legs) k noLeg .fare ≡ at book i (22 + 4 * k)
   pub parts : (k : ℕ) → k < 8 → getD (e .parts) k 0 ≡ at book i (53 + k)
   pub status : e .status ≡ at book i 61
+
+-- the book: its count is word 0, and so many are its entries
+pub record Kept (book : List ℕ) : Type 0 where
+  pub count : countOf book ≡ getD book 0 0
+  pub words : (i p : ℕ) → p < 64 → getD (entryWords book i) p 0 ≡ at book i p
+  pub as-many : length (entries book) ≡ getD book 0 0
+  pub each : (i : ℕ) → i < getD book 0 0 → Says book i (getD (entries book) i noEntry)

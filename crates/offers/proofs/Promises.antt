@@ -11,10 +11,12 @@ use native.Mathlib.Nat.{mul-le-mul-right}
 use native.Mathlib.Omega.{arith}
 use lib.Dec.{eqb}
 use lib.ListN.{length, getD, replicate}
+use borrow.Author.Tests.{le-leb}
 use Rattle.common.specs.Lists.{every, any, sum, upTo}
 use Rattle.common.specs.Checks.{refuse}
 use Rattle.common.specs.declared.Refusal.{Refusal}
 use Rattle.common.proofs.Lists.{upto-same}
+use Rattle.common.proofs.Tests.{both-true, in-range}
 use Rattle.layout.specs.Layout.{CO, AR, ME, tables, tableAt, tableCount, lengthOf}
 use Rattle.layout.specs.Fields.{rowOf, bytesOf, ofOffers, transferorOf, offerOf, railwayOf}
 use Rattle.layout.specs.Rules.{keepsRow, keepsRules}
@@ -42,7 +44,7 @@ use Rattle.bundle.proofs.Faults.{refused-fault, fault-refused}
 use Rattle.bundle.proofs.Computed.{verdict-figures-hold}
 use Rattle.fares.specs.Rounding.{IsRounded}
 use Rattle.fares.specs.Fare.{partsOf, fareOf}
-use Rattle.fares.specs.Question.{cardSlots, cardsOf, cardsDiffer, inLimits}
+use Rattle.fares.specs.Question.{between, cardSlots, cardsOf, cardsDiffer, inLimits}
 use Rattle.fares.specs.Reductions.{greater}
 use Rattle.fares.specs.Meaning.{cardAt, InLimits, CardsDiffer, Applies, AllTogether, Permitted, After, AfterCards, LegFare, IsFare, NoFare}
 use Rattle.fares.specs.OneCard.{OneCard, baseFare}
@@ -61,8 +63,8 @@ use Rattle.fares.proofs.OneCard.{fare-is}
 use Rattle.fares.proofs.Computed.{fare-figures-hold}
 use Rattle.book.specs.Words.{Entry, cardsAt, countOf, entryAt, entries, questionOf}
 use Rattle.book.specs.Due.{carriedBy, anyLeg, dueIn}
-use Rattle.book.specs.Meaning.{askedWord, cardsIn, Sound, Holds}
-use Rattle.book.specs.Places.{given, Places, Says}
+use Rattle.book.specs.Meaning.{askedWord, cardsIn, Sound, Holds, HeldNowhere}
+use Rattle.book.specs.Places.{given, Places, Says, Kept}
 use Rattle.book.specs.SameQuestion.{SameQuestion}
 use Rattle.book.specs.Sound.{soundWords}
 use Rattle.book.specs.OneCard.{OneCardBook, baseSound}
@@ -70,13 +72,13 @@ use Rattle.book.proofs.BookMeaning.{sound-means, means-sound}
 use Rattle.book.proofs.AmountsAreDue.{balance-due, total-due}
 use Rattle.book.proofs.TotalIsSum.{total-is-sum}
 use Rattle.book.proofs.OneCard.{base-means, means-base}
-use Rattle.book.proofs.Places.{the-places, entry-says, question-cards, entry-cards}
+use Rattle.book.proofs.Places.{the-places, entry-says, book-kept, question-cards, entry-cards}
 use Rattle.sales.specs.Sales.{saleAnswer, saleWords, cancelAnswer, cancelWords}
 use Rattle.sales.specs.Balances.{balanceAnswer, totalAnswer}
 use Rattle.sales.specs.OneCard.{OneCardOps, baseAfter, baseSale, baseSaleWords, baseCancel, baseCancelWords, baseBalance, baseTotal}
 use Rattle.sales.specs.History.{Number, Op, sale, emptyBook, after, cancelledIn, bookedBy, owed, isIn, isNumber}
 use Rattle.sales.proofs.BalanceIsOwed.{balance-told, total-told}
-use Rattle.sales.proofs.InAnyBook.{book-balance, no-railway, book-total, sale-without-number, cancel-without-number, same-sale, other-sale, known-cancel}
+use Rattle.sales.proofs.InAnyBook.{book-balance, no-railway, book-total, sale-without-number, cancel-without-number, same-sale, other-sale, known-cancel, unknown-cancel, sale-when-full, sale-booked, sale-refused}
 use Rattle.sales.specs.declared.Outcome.the-variants.{Cancelled, AlreadyCancelled}
 use Rattle.sales.specs.Figures.{Day}
 use Rattle.sales.proofs.Computed.{the-day}
@@ -275,6 +277,9 @@ the-places-of-a-book = the-places
 pub an-entry-says-its-words : (book : List ℕ) (i : ℕ) → Says book i (entryAt book i)
 an-entry-says-its-words = entry-says
 
+pub a-book-keeps-its-entries : (book : List ℕ) → Kept book
+a-book-keeps-its-entries = book-kept
+
 pub the-cards-of-an-entry-are-counted : (ws : List ℕ) → cardsIn ws
     ≡ given (askedWord ws cardsAt) + (given (askedWord ws (cardsAt + 1)) + (given (askedWord ws (cardsAt + 2)) + given (askedWord ws (cardsAt + 3))))
 the-cards-of-an-entry-are-counted = entry-cards
@@ -327,6 +332,15 @@ module _ (book : List ℕ) (sound : Sound book) where
       let s = means-sound book sound in
       sym (total-due book s) ∙ (total-is-sum book s ∙ ap sum (upto-same _ _ 9999 (λ r l. balance-due book s (r + 1))))
 
+-- A sale number is within its limits exactly if till and sequence are.
+pub the-limits-of-a-sale-number : (n : Number)
+    → (isNumber n ≡ true) ↔ (((1 ≤ n .till) × (n .till ≤ 65535)) × ((1 ≤ n .sequence) × (n .sequence ≤ 4294967295)))
+the-limits-of-a-sale-number n = (
+  λ e. let b = both-true (between 1 65535 (n .till)) (between 1 4294967295 (n .sequence)) e in
+      (in-range 1 (n .till) 65535 (b .0), in-range 1 (n .sequence) 4294967295 (b .1)),
+  λ h. rw (le-leb 1 (n .till) (h .0 .0), le-leb (n .till) 65535 (h .0 .1), le-leb 1 (n .sequence) (h .1 .0), le-leb (n .sequence) 4294967295 (h .1 .1)),
+)
+
 -- In a sound book a number outside its limits is refused with 22. One that entry i holds is told that entry's parts, and whether it is cancelled, for the same
 -- question; another question is refused with 23 at that entry.
 module _ (book : List ℕ) (sound : Sound book) (n : Number) where
@@ -361,6 +375,29 @@ module _ (book : List ℕ) (sound : Sound book) (n : Number) where
         go : (live : Bool) → outcomeTells (cond live Cancelled AlreadyCancelled) (entry .parts) ≡ answers (cond live cancelled alreadyCancelled ∷ 1 ∷ entry .parts)
         go true = refl
         go false = refl
+
+-- One that no entry holds is unknown to a cancellation (25); its sale is refused by 24 in a full book, and in one with room is booked with the parts of its fare, or
+-- refused as that is: so also in a stored book that goes on with several cards.
+module _ (book : List ℕ) (sound : Sound book) (n : Number) (number : isNumber n ≡ true) (nowhere : HeldNowhere book (n .till) (n .sequence)) where
+  pub what-no-entry-holds-is-not-cancelled : receiptTells (cancelAnswer book (n .till) (n .sequence)) ≡ refuses (refuse 25 0 0) (replicate 10 0)
+  unfolding receiptTells outcomeTells
+  what-no-entry-holds-is-not-cancelled = rw (unknown-cancel book sound n number nowhere)
+
+  module _ (bundle : List ℕ) (q : Question) where
+    pub a-full-sound-book-takes-no-sale : 256 ≤ countOf book → receiptTells (saleAnswer book (n .till) (n .sequence) bundle q) ≡ refuses (refuse 24 0 0) (replicate 10 0)
+    unfolding receiptTells outcomeTells
+    a-full-sound-book-takes-no-sale f = rw (sale-when-full book sound n number nowhere bundle q f)
+
+    module _ (room : countOf book < 256) where
+      pub a-sound-book-books-a-sale-with-its-fare : fareOf bundle q .outcome ≡ Priced
+          → receiptTells (saleAnswer book (n .till) (n .sequence) bundle q) ≡ answers (booked ∷ 0 ∷ fareOf bundle q .parts)
+      unfolding receiptTells outcomeTells
+      a-sound-book-books-a-sale-with-its-fare e = rw (sale-booked book sound n number nowhere bundle q room e)
+
+      pub a-sound-book-refuses-a-sale-as-its-fare : (why : Refusal) → fareOf bundle q .outcome ≡ Refused why
+          → receiptTells (saleAnswer book (n .till) (n .sequence) bundle q) ≡ refuses why (replicate 10 0)
+      unfolding receiptTells outcomeTells
+      a-sound-book-refuses-a-sale-as-its-fare why e = rw (sale-refused book sound n number nowhere bundle q room why e)
 
 -- DEMAND 3. After any sales and cancellations from the empty book, each sale with any bundle: the book is sound,
 module _ (ops : List Op) where
