@@ -69,6 +69,7 @@ use Rattle.book.specs.SameQuestion.{SameQuestion}
 use Rattle.book.specs.Sound.{soundWords}
 use Rattle.book.specs.OneCard.{OneCardBook, baseSound}
 use Rattle.book.proofs.BookMeaning.{sound-means, means-sound}
+use Rattle.book.proofs.SoundBook.{is-sound, sound-is}
 use Rattle.book.proofs.AmountsAreDue.{balance-due, total-due}
 use Rattle.book.proofs.TotalIsSum.{total-is-sum}
 use Rattle.book.proofs.OneCard.{base-means, means-base}
@@ -77,7 +78,7 @@ use Rattle.sales.specs.Sales.{saleAnswer, saleWords, cancelAnswer, cancelWords}
 use Rattle.sales.specs.Balances.{balanceAnswer, totalAnswer}
 use Rattle.sales.specs.OneCard.{OneCardOps, baseAfter, baseSale, baseSaleWords, baseCancel, baseCancelWords, baseBalance, baseTotal}
 use Rattle.sales.specs.History.{Number, Op, sale, emptyBook, after, cancelledIn, bookedBy, owed, isIn, isNumber}
-use Rattle.sales.proofs.BalanceIsOwed.{balance-told, total-told}
+use Rattle.sales.proofs.BalanceIsOwed.{stays-sound, balance-told, total-told}
 use Rattle.sales.proofs.InAnyBook.{book-balance, no-railway, book-total, sale-without-number, cancel-without-number, same-sale, other-sale, known-cancel, unknown-cancel, sale-when-full, sale-booked, sale-refused}
 use Rattle.sales.specs.declared.Outcome.the-variants.{Cancelled, AlreadyCancelled}
 use Rattle.sales.specs.Figures.{Day}
@@ -399,6 +400,10 @@ module _ (book : List ℕ) (sound : Sound book) (n : Number) (number : isNumber 
       unfolding receiptTells outcomeTells
       a-sound-book-refuses-a-sale-as-its-fare why e = rw (sale-refused book sound n number nowhere bundle q room why e)
 
+-- A sound book stays sound, whatever sales and cancellations follow.
+pub a-sound-book-stays-sound : (book : List ℕ) → Sound book → (ops : List Op) → Sound (after book ops)
+a-sound-book-stays-sound book sound ops = sound-means (after book ops) (sound-is (after book ops) (stays-sound ops book (is-sound book (means-sound book sound))))
+
 -- DEMAND 3. After any sales and cancellations from the empty book, each sale with any bundle: the book is sound,
 module _ (ops : List Op) where
   pub the-book-stays-sound : Sound (after emptyBook ops)
@@ -515,6 +520,10 @@ a-book-sound-before book = (base-means book, means-base book)
 module _ (book : List ℕ) (stored : baseSound book ≡ true) where
   pub a-stored-book-is-sound : Sound book
   a-stored-book-is-sound = base-means book stored .0
+
+  -- and stays so, also with sales of several cards;
+  pub a-stored-book-stays-sound : (ops : List Op) → Sound (after book ops)
+  a-stored-book-stays-sound = a-sound-book-stays-sound book a-stored-book-is-sound
 
   pub a-stored-book-owes-a-railway-the-same : (railway : ℕ) → balanceAnswer book railway ≡ baseBalance book railway
   a-stored-book-owes-a-railway-the-same = same-balance book (base-means book stored .1)
