@@ -74,14 +74,21 @@ figures =
     cards 134 (cardWith 5 byte-Y 2 50000 byte-plus 50 ++ cardWith 7 byte-Y 1 25000 byte-minus 100) (5 ∷ 7 ∷ []) 50 ∷
     cards 134 (cardWith 5 byte-Y 1 50000 byte-plus 50 ++ cardWith 7 byte-Y 1 25000 byte-minus 100) (7 ∷ 5 ∷ []) 0 ∷
     cards 134 (cardWith 7 byte-Y 1 50000 byte-plus 50 ++ cardWith 5 byte-Y 1 25000 byte-minus 100) (7 ∷ 5 ∷ []) 50 ∷
-    -- N alone, from the amount after CO: it takes 30 % of 1000, or the two with Y leave less, or the second N does
+    -- N alone, from the amount after CO: it leaves less than Y, or Y leaves less, or the second N does; and from what the CO leaves
     cards 1000 (cardWith 5 byte-Y 1 10000 byte-N 0 ++ cardWith 7 byte-N 1 30000 byte-N 0) (5 ∷ 7 ∷ []) 700 ∷
     cards 1000 (cardWith 5 byte-Y 1 30000 byte-N 0 ++ cardWith 7 byte-N 1 10000 byte-N 0) (5 ∷ 7 ∷ []) 700 ∷
     cards 1000 (cardWith 5 byte-N 1 10000 byte-N 0 ++ cardWith 7 byte-N 1 30000 byte-N 0) (5 ∷ 7 ∷ []) 700 ∷
+    asked (conditions 0 byte-Y (grant 10000 byte-N 0) ++ (named 5 ++ (named 7 ++ (cardWith 5 byte-Y 1 10000 byte-N 0 ++ cardWith 7 byte-N 1 30000 byte-N 0)))) (ticket 1 (5 ∷ 7 ∷ []) 1 (leg 1185 1000 ∷ [])) 630 (630 ∷ []) ∷
+    -- three with Y, each rounded by itself: 1000, 550, 500, 450
+    asked (conditions 0 byte-Y (grant 0 byte-N 0) ++ (named 5 ++ (named 7 ++ (named 9 ++ (cardWith 5 byte-Y 3 10000 byte-N 0 ++ (cardWith 7 byte-Y 2 10000 byte-plus 100 ++ cardWith 9 byte-Y 1 45000 byte-N 0)))))) (ticket 1 (5 ∷ 7 ∷ 9 ∷ []) 1 (leg 1185 1000 ∷ [])) 450 (450 ∷ []) ∷
+    -- two cards where flag 33 is N
+    asked (conditions 0 byte-N (grant 0 byte-N 0) ++ (named 5 ++ (named 7 ++ (cardWith 5 byte-Y 1 10000 byte-N 0 ++ cardWith 7 byte-N 1 30000 byte-N 0)))) (ticket 1 (5 ∷ 7 ∷ []) 1 (leg 1185 1000 ∷ [])) 1000 (1000 ∷ []) ∷
     -- not tried: a part of the Y records, which would leave 1, and no card, which would leave 100
     cards 1 (cardWith 5 byte-Y 1 50000 byte-N 0 ++ cardWith 7 byte-Y 2 1000 byte-plus 500) (5 ∷ 7 ∷ []) 500 ∷
     cards 100 (cardWith 5 byte-Y 1 0 byte-plus 998) (5 ∷ []) 998 ∷
-    -- a card twice; behind a slot that is not used; of four digits
+    -- a card twice, in any two slots; behind a slot that is not used; of four digits, in any slot
+    turned-away [] (ticket 1 (5 ∷ 7 ∷ 5 ∷ []) 1 (leg 1185 1010 ∷ [])) 17 ∷
+    turned-away [] (ticket 1 (5 ∷ 7 ∷ 9 ∷ 1000 ∷ []) 1 (leg 1185 1010 ∷ [])) 11 ∷
     turned-away [] (ticket 1 (7 ∷ 7 ∷ []) 1 (leg 1185 1010 ∷ [])) 17 ∷
     turned-away [] (ticket 1 (0 ∷ 7 ∷ []) 1 (leg 1185 1010 ∷ [])) 11 ∷
     turned-away [] (ticket 1 (1000 ∷ 1000 ∷ []) 1 (leg 1185 1010 ∷ [])) 11 ∷

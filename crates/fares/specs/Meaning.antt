@@ -1,5 +1,5 @@
--- WHAT A FARE MEANS (document 01, 'Pricing'): which records count for a leg, by their fields; each amount from the one before it; the part and the fare. There
--- is no search, no chosen place and no chain of steps in it.
+-- WHAT A FARE MEANS (document 01, 'Pricing', and document 02, R-1): which records count for a leg, by their fields; each amount from the one before it; the
+-- part and the fare. There is no search, no sort and no order of trying in it.
 -- Assumes nothing.
 use Prim.Native.Nat.{ℕ, _-_, _*_, _≤_, _<_}
 use mathlib.Core.Path.{_≡_}

@@ -1,4 +1,4 @@
--- The limits of a question (document 01, 'Pricing').
+-- The limits of a question (document 01, 'Pricing'), and its cards (document 02, R-1).
 -- Assumes nothing.
 use Prim.Native.Nat.{ℕ}
 use mathlib.Core.Bool.{Bool, true, cond, not, _&&_}
