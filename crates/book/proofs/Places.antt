@@ -14,10 +14,10 @@ use Rattle.fares.specs.Question.{noLeg, isGiven, cardSlots, cardsOf}
 use Rattle.fares.specs.Meaning.{cardAt}
 use Rattle.fares.specs.declared.Leg.{Leg}
 use Rattle.fares.specs.declared.Question.{Question}
-use Rattle.book.specs.Words.{Entry, noEntry, offerAt, dayAt, cardsAt, countAt, personsAt, railwayAt, fareAt, tillAt, sequenceAt, askedAt, partsAt, statusAt, width, questionWidth, startOf, legOf, questionOf, entryWords, entryAt, entries}
+use Rattle.book.specs.Words.{Entry, offerAt, dayAt, cardsAt, countAt, personsAt, railwayAt, fareAt, tillAt, sequenceAt, askedAt, partsAt, statusAt, width, questionWidth, startOf, legOf, questionOf, entryWords, entryAt}
 use Rattle.book.specs.Meaning.{askedWord, cardsIn}
 use Rattle.book.specs.Places.{given, Places, at, Says, Kept}
-use Rattle.book.proofs.EntryWords.{word-at, part-at, asked-at, card-at, count-at}
+use Rattle.book.proofs.EntryWords.{word-at, part-at, asked-at, card-at}
 use Rattle.book.proofs.SoundBook.{entry-is, entries-length}
 
 pub the-places : Places

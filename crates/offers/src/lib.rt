@@ -12,6 +12,7 @@
 //             7  a link is missing: record, 1 no RE of the code, 2 no CO, 3 no AR, 4 no ME of the offer
 //   fare      as verdict, then
 //            11  the question is outside its limits
+//            17  a card is given twice
 //            12  no CO of the offer for the railway or for all: leg
 //            13  the day is outside that CO: leg
 //            14  the persons are outside that CO's fields 28 and 29: leg
