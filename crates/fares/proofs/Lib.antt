@@ -16,3 +16,4 @@ pub mod FareLaws
 pub mod PriceLaws
 pub mod Meaning
 pub mod OneCard
+pub mod CardOrder

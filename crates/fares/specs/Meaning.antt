@@ -47,6 +47,13 @@ pub record InLimits (q : Question) : Type 0 where
 abbrev pub CardsDiffer : Question → Type 0
 CardsDiffer q = (j k : ℕ) → j < k → k < 4 → cardAt q j ≡ cardAt q k → cardAt q j ≡ 0
 
+-- a question with other cards; and cards that are the same in any order: each card given in the first stands in a slot of the second
+abbrev pub withCards : Question → List ℕ → Question
+withCards q cards = record { offer = q .offer; day = q .day; persons = q .persons; cards = cards; count = q .count; legs = q .legs }
+
+abbrev pub SameCards : List ℕ → List ℕ → Type 0
+SameCards before after = (j : ℕ) → j < 4 → (getD before j 0 ≡ 0 → ⊥) → (k : ℕ) × (k < 4) × (getD before j 0 ≡ getD after k 0)
+
 -- A RECORD IN FORCE: the day is not before its first day's field, and not after its last day's
 abbrev pub InForce : ℕ → ℕ → ℕ → List ℕ → ℕ → Type 0
 InForce t first last body day = (numberIn t first body ≤ day) × (day ≤ numberIn t last body)

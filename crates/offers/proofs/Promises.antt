@@ -46,7 +46,7 @@ use Rattle.fares.specs.Rounding.{IsRounded}
 use Rattle.fares.specs.Fare.{partsOf, fareOf}
 use Rattle.fares.specs.Question.{between, cardSlots, cardsOf, cardsDiffer, inLimits}
 use Rattle.fares.specs.Reductions.{greater}
-use Rattle.fares.specs.Meaning.{cardAt, InLimits, CardsDiffer, Applies, AllTogether, Permitted, After, AfterCards, LegFare, IsFare, NoFare}
+use Rattle.fares.specs.Meaning.{cardAt, withCards, SameCards, InLimits, CardsDiffer, Applies, AllTogether, Permitted, After, AfterCards, LegFare, IsFare, NoFare}
 use Rattle.fares.specs.OneCard.{OneCard, baseFare}
 use Rattle.fares.specs.Figures as fares
 use Rattle.fares.specs.declared.Leg.{Leg}
@@ -60,6 +60,7 @@ use Rattle.fares.proofs.QuestionLimits.{limits-mean, means-limits}
 use Rattle.fares.proofs.CardSlots.{differ-means, means-differ}
 use Rattle.fares.proofs.Meaning.{fare-means, means-fare, no-fare-means, means-no-fare, part-bounded}
 use Rattle.fares.proofs.OneCard.{fare-is}
+use Rattle.fares.proofs.CardOrder.{any-order}
 use Rattle.fares.proofs.Computed.{fare-figures-hold}
 use Rattle.book.specs.Words.{Entry, cardsAt, countOf, entryAt, entries, questionOf}
 use Rattle.book.specs.Due.{carriedBy, anyLeg, dueIn}
@@ -215,6 +216,14 @@ the-records-together-have-one-order = order-only
 pub the-cards-leave-one-amount : (R : List Rec) (q : Question) (leg : Leg) (co : List ℕ) {before a b : ℕ} → AfterCards R q leg co before a → AfterCards R q leg co before b
     → a ≡ b
 the-cards-leave-one-amount = one-amount
+
+-- The order of the cards has no effect on a fare: with the same cards in another order, used slots first, it is answered by the same.
+pub the-order-of-the-cards-does-not-matter : (bundle : List ℕ) (q : Question) (cards others : List ℕ) → SameCards cards others → SameCards others cards
+    → InLimits (withCards q others) → CardsDiffer (withCards q others) → (fare : ℕ) (parts : List ℕ)
+    → fareTells (fareOf bundle (withCards q cards)) ≡ answers (fare ∷ parts) → fareTells (fareOf bundle (withCards q others)) ≡ answers (fare ∷ parts)
+the-order-of-the-cards-does-not-matter bundle q cards others s t l d fare parts e =
+    what-the-records-say-is-the-fare bundle (recordsOf bundle) (withCards q others) fare parts
+    (any-order bundle (recordsOf bundle) q cards others s t l d fare parts (a-fare-is-what-the-records-say bundle (withCards q cards) fare parts e))
 
 -- A question is within its limits exactly if each of its values is, and gives no card twice exactly if slots that have the same are not used.
 pub the-limits-of-a-question : (q : Question) → (inLimits q ≡ true) ↔ InLimits q
