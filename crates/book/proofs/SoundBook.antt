@@ -4,20 +4,15 @@ use Prim.Native.Nat.{ℕ, _+_, _-_, _≤_, _<_}
 use mathlib.Core.Path.{_≡_, sym, _∙_, ap}
 use mathlib.Core.Bool.{true, _&&_}
 use mathlib.Core.List.{List}
-use mathlib.Core.Logic.{⊎-elim}
 use native.Mathlib.Omega.{arith}
 use lib.Dec.{leb}
 use lib.ListN.{length, getD, drop}
 use lib.Seq.{getD-drop}
 use borrow.Author.Tests.{eqb-true, leb-true, eq-eqb, le-leb}
 use Rattle.common.specs.Lists.{every, same}
-use Rattle.common.proofs.Tests.{side, both-true}
+use Rattle.common.proofs.Tests.{both-true}
 use Rattle.common.proofs.Lists.{every-at, zero-at, upto-length, upto-at, first-length, first-at}
 use Rattle.fares.specs.Question.{between, noLeg, legsOf, legInLimits, cardSlots, cardsDiffer, limitsOf, inLimits}
-use Rattle.fares.specs.Meaning.{cardAt}
-use Rattle.fares.specs.OneCard.{OneCard}
-use Rattle.fares.specs.declared.Question.{Question}
-use Rattle.fares.proofs.QuestionLimits.{limits-mean}
 use Rattle.fares.proofs.FareLaws.{asked as asked-of}
 use Rattle.book.specs.Words.{Entry, noEntry, capacity, bookLength, startOf, countOf, entries, entryAt, legOf, questionOf, questionWords}
 use Rattle.book.specs.Sound.{isZero, numberInLimits, askedSound, boundOf, isBounded, entrySound, numbersDiffer, soundWords}
@@ -73,10 +68,6 @@ asked-limits ws e = asked-tests ws e .0
 
 pub asked-differ : (ws : List ℕ) → askedSound ws ≡ true → cardsDiffer (cardSlots (questionOf ws)) ≡ true
 asked-differ ws e = both-true (cardsDiffer (cardSlots (questionOf ws))) (same ws (questionWords (questionOf ws))) (asked-tests ws e .1) .0
-
--- a question within its limits has one card or none if its second slot is not used
-pub one-card : (q : Question) → inLimits q ≡ true → cardAt q 1 ≡ 0 → OneCard q
-one-card q e z k a l = ⊎-elim (λ h. limits-mean q e .used-first 1 k h l z) (λ h. let i : k ≡ 1 = omega arith in ap (cardAt q) i ∙ z) (side 1 k)
 
 pub few-legs : (ws : List ℕ) → askedSound ws ≡ true → questionOf ws .count ≤ 8
 few-legs ws e = asked-of (questionOf ws) (asked-limits ws e) .few

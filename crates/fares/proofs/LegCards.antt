@@ -8,7 +8,7 @@ use native.Mathlib.Nat.{le-trans, le-refl, zero-add}
 use native.Mathlib.Numerals.{add-one}
 use native.Mathlib.Omega.{arith}
 use lib.Dec.{ltb}
-use lib.ListN.{length, getD, take, drop, set, replicate, length-map, length-append, length-replicate, length-take, length-drop, drop-of-length-le}
+use lib.ListN.{length, getD, take, drop, set, replicate, length-map, length-append, length-replicate, length-take, drop-of-length-le}
 use lib.Seq.{drop-cons, take-append-seam, drop-append-add, set-at, getD-at, getD-take}
 use borrow.Author.Tests.{leb-true, le-leb, lt-ltb, le-ltb}
 use Rattle.common.specs.Lists.{every, only}
@@ -114,9 +114,6 @@ module _ (steps : List Step) (step : Step) (count : ℕ) (few : count < 4) (long
         let y : c .front ++ (carried ∷ []) ≡ insert rankIn step (take count steps) = rw (e, n) at (c .yet) in
         rw (c .stands, e, d, ← y)
         (set-at (c .front) (getD steps count noStep) (drop (count + 1) steps) carried count (c .settled ∙ e) ∙ sym (append-assoc (c .front) (carried ∷ []) (drop (count + 1) steps)))
-
-    pub carried-length : k ≤ count → length row ≡ 4
-    carried-length l = rw (c .stands) (length-append (c .front) (drop k steps) ∙ omega (arith, c .settled, length-drop k steps))
 
 -- THE RECORDS APPLIED TOGETHER: those met so far in their row, and those yet to come
 abbrev stepsOf : List (List ℕ) → List Step
