@@ -6,6 +6,7 @@ pub mod Only
 pub mod Fours
 pub mod Parts
 pub mod Digits
+pub mod Ranks
 pub mod Sums
 pub mod Checks
 pub mod Listed

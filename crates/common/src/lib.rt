@@ -1,10 +1,11 @@
 // Searches, lists and refusals that every later crate cites. Nothing here knows of railways.
 ghost use mathlib.Core.Path.{_≡_};
 ghost use mathlib.Core.Bool.{_&&_};
-ghost use Prim.Native.Nat.{_+_, _-_, _≤_};
+ghost use Prim.Native.Nat.{_+_, _-_, _≤_, _<_};
 ghost use lib.ListN.{length, take, drop};
 ghost use Rattle.common.specs.Lists.{same, byteAt};
 ghost use Rattle.common.specs.Digits.{numberOf, valueOf, isWithin};
+ghost use Rattle.common.specs.Ranks.{rankOf, rankLimit};
 ghost use Rattle.common.specs.Checks.{refuse};
 ghost use Rattle.common.specs.Helpers.{fourBytes, fourAt};
 
@@ -113,6 +114,22 @@ fn four(lowest: u8, low: u8, high: u8, highest: u8) -> u32
     ensures { λ r. ⌜ r ≡ fourBytes lowest low high highest ⌝ }
 {
     lowest as u32 + low as u32 * 256 + high as u32 * 65536 + highest as u32 * 16777216
+}
+
+// One number for a few bytes: the same for the same bytes, and among digits greater for what comes later in their order. 0 for more than twelve bytes.
+pub fn rank(s: &[u8]) -> u64
+    ensures { λ r. ⌜ (r ≡ rankOf (now (s .entry))) × (r < rankLimit) ⌝ }
+{
+    if 12 < s.len() {
+        return 0;
+    }
+    let mut v: u64 = 0;
+    let mut i = 0;
+    while i < s.len() {
+        v = v * 19 + s[i] as u64;
+        i += 1;
+    }
+    v
 }
 
 // The number that one to nine digits say.

@@ -1,7 +1,7 @@
 -- What holds of every table. Each fact is one test that antt computes over the list of the tables, and one law that turns it into the fact at a table:
 -- a further block in the layout runs the tests again and changes no law.
 -- Assumes nothing.
-use Prim.Native.Nat.{ℕ, _+_, _-_, _≤_, _<_}
+use Prim.Native.Nat.{ℕ, _+_, _-_, _*_, _≤_, _<_}
 use mathlib.Core.Path.{_≡_, refl, ap, _∙_}
 use mathlib.Core.Bool.{Bool, true, false, cond, not, _&&_, _||_}
 use mathlib.Core.List.{List, [], _∷_, map}
@@ -13,6 +13,7 @@ use lib.Seq.{drop-drop}
 use borrow.Author.Tests.{not-false, eqb-true, ltb-true, eq-eqb, ne-eqb}
 use Rattle.common.specs.Least.{least}
 use Rattle.common.specs.Lists.{every, any, same, sum}
+use Rattle.common.specs.Ranks.{rankOf}
 use Rattle.common.proofs.Least.{before}
 use Rattle.common.specs.Digits.{numberOf, valueOf, isWithin}
 use Rattle.common.proofs.Lists.{same-is, same-parts}
@@ -21,7 +22,7 @@ use Rattle.layout.specs.Layout.{CO, NUMBER, FIRST-DAY, LAST-DAY, noTable
 use Rattle.layout.specs.Fields.{fieldAt, bytesIn, rowWith, rowOf, bytesOf, transferorOf, ofOffers, offerOf, railwayOf, codeOf, codeFits, sameKey, dayRow, hasPeriod}
 use Rattle.layout.specs.Company.{isCompany}
 use Rattle.layout.specs.Rules.{ruled, keptBeside, keepsRow, firstBroken, brokenField, keepsRules}
-use Rattle.layout.specs.Helpers.{asRow, noSpan, codeSpan, keyLength}
+use Rattle.layout.specs.Helpers.{asRow, noSpan, codeSpan, keyLength, tableStep, keyNumber}
 use Rattle.layout.specs.declared.fields.Span.{Span}
 use Rattle.layout.specs.declared.rows.Row.{Row}
 
@@ -146,6 +147,11 @@ key-stands t =
 pub key-at-once : (t : ℕ) (a b : List ℕ) → same (take (keyLength t) (drop 4 a)) (take (keyLength t) (drop 4 b)) ≡ sameKey t a b
 unfolding keyLength sameKey
 key-at-once t a b = at-once t 4 (tableAt t .key) a b (key-stands t)
+
+-- the same key has the same number
+pub same-number : (t : ℕ) (a b : List ℕ) → sameKey t a b ≡ true → keyNumber t a ≡ keyNumber t b
+unfolding keyNumber
+same-number t a b e = ap (λ k. rankOf k + t * tableStep) (same-is (take (keyLength t) (drop 4 a)) (take (keyLength t) (drop 4 b)) (key-at-once t a b ∙ e))
 
 -- PERIODS: every table has one, in the last 18 bytes of its records
 pub record Period (t : ℕ) : Type 0 where

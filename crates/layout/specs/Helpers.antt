@@ -1,11 +1,12 @@
 -- What the code's helpers answer. Nothing here has to be believed: no promise and no answer of a call is stated with it.
 -- Assumes nothing.
-use Prim.Native.Nat.{ℕ, _-_}
+use Prim.Native.Nat.{ℕ, _+_, _-_, _*_}
 use mathlib.Core.Bool.{Bool, cond}
 use mathlib.Core.List.{List, map}
 use lib.Dec.{eqb}
 use lib.ListN.{length, getD, take}
 use Rattle.common.specs.Lists.{sum, byteAt}
+use Rattle.common.specs.Ranks.{rankOf}
 use Rattle.layout.specs.Layout.{Table, tables, tableAt}
 use Rattle.layout.specs.Fields.{fieldAt, rowOf}
 use Rattle.layout.specs.Rules.{keptBeside}
@@ -34,6 +35,13 @@ codeSpan t = cond (eqb (tableAt t .code) 0) noSpan (rowOf t (tableAt t .code) .s
 -- how many bytes the fields of a table's key have together
 unfoldable pub keyLength : ℕ → ℕ
 keyLength t = sum (map (λ f. rowOf t f .length) (tableAt t .key))
+
+-- one number for a record's table and key, which stands from position 5 on; the step tells the numbers of one table from those of another
+abbrev pub tableStep : ℕ
+tableStep = 1000003
+
+unfoldable pub keyNumber : ℕ → List ℕ → ℕ
+keyNumber t body = rankOf (fieldAt 5 (keyLength t) body) + t * tableStep
 
 -- a record keeps the rule of a row, whatever its table: the least persons and the rounding are read right before it, the first day before the version
 unfoldable pub obeysRow : List ℕ → Row → Bool

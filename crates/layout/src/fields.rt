@@ -3,7 +3,7 @@ ghost use mathlib.Core.Path.{_≡_};
 ghost use Rattle.common.specs.Digits.{numberOf, valueOf};
 ghost use Rattle.layout.specs.Layout.{CO as inCO, AR as inAR};
 ghost use Rattle.layout.specs.Fields.{fieldAt, numberIn, isYes, transferorOf, offerOf, railwayOf, codeOf, codeFits, sameKey, holdsDay, grantIn};
-ghost use Rattle.layout.specs.Helpers.{codeSpan, keyLength};
+ghost use Rattle.layout.specs.Helpers.{codeSpan, keyLength, keyNumber};
 use super::AR;
 use super::CO;
 use super::ME;
@@ -95,12 +95,22 @@ fn key_length(table: u32) -> usize
     }
 }
 
+// What tells the numbers of one table from those of another.
+const TABLE_STEP: u64 = 1000003;
+
 // Whether two records of a table have the same key. Its fields stand one behind the other, so that they are compared at once.
 pub fn same_key<'a>(table: u32, a: &'a [u8], b: &'a [u8]) -> bool
     ensures { λ r. ⌜ r ≡ sameKey table (now (a .entry)) (now (b .entry)) ⌝ }
 {
     let n = key_length(table);
     common::same_bytes(field(a, 5, n), field(b, 5, n))
+}
+
+// One number for a record's table and key.
+pub fn key_number(table: u32, body: &[u8]) -> u64
+    ensures { λ r. ⌜ r ≡ keyNumber table (now (body .entry)) ⌝ }
+{
+    common::rank(field(body, 5, key_length(table))) + table as u64 * TABLE_STEP
 }
 
 // Whether a day lies in the period of a record: its last 18 bytes are the first day, the version and the last day.
