@@ -7,9 +7,10 @@ use mathlib.Core.List.{List, [], _∷_}
 use native.Mathlib.Omega.{arith}
 use native.Mathlib.Nat.{add-zero}
 use native.Mathlib.Numerals.{add-one}
-use lib.ListN.{length, getD, drop, length-drop}
+use lib.ListN.{length, getD, drop, length-drop, List·getD-eq-default}
 use lib.Seq.{drop-drop, getD-drop}
-use Rattle.bundle.specs.Records.{rec, noRec, stepOf, between, recordsFrom, restFrom, recordsOf, restOf}
+use Rattle.common.proofs.Tests.{side}
+use Rattle.bundle.specs.Records.{rec, noRec, stepOf, ifWhole, between, recordsFrom, restFrom, recordsOf, restOf}
 use Rattle.bundle.specs.Helpers.{moved, stepAt, placesFrom, placesOf, bodyAt}
 use types.Run.{OneOf}
 use denote.Enum.Declared.{tagOf}
@@ -59,6 +60,23 @@ places-whole : (k p : ℕ) (s : List ℕ) {t start next : ℕ} → 0 < k → ste
 unfolding placesFrom
 places-whole zero p s h e = absurd (omega arith)
 places-whole (suc k) p s h e = rw e
+
+-- each record has a place
+places-alike : (k p : ℕ) (s : List ℕ) → length (placesFrom k p s) ≡ length (recordsFrom k s)
+unfolding placesFrom recordsFrom
+places-alike zero p s = refl
+places-alike (suc k) p s = go (stepOf s) (λ n. places-alike k (p + n) (drop n s))
+  where
+    go : (v : Step) → ((n : ℕ) → length (placesFrom k (p + n) (drop n s)) ≡ length (recordsFrom k (drop n s)))
+        → length (ifWhole v [] (λ t start next. p ∷ placesFrom k (p + next) (drop next s)))
+        ≡ length (ifWhole v [] (λ t start next. rec t (between start next s) ∷ recordsFrom k (drop next s)))
+    go Unknown f = refl
+    go Short f = refl
+    go (Whole t start next) f = ap suc (f next)
+
+places-length : (s : List ℕ) → length (placesOf s) ≡ length (recordsOf s)
+unfolding placesOf recordsOf
+places-length s = places-alike (length s) 0 s
 
 -- no whole record starts there
 pub data Over (s : List ℕ) : Type 0 where
@@ -234,6 +252,19 @@ module _ (s : List ℕ) where
       let h = here-each j (omega arith) in
       let f = found-at (h .0) j (h .1) l (stepOf (drop (h .0) s)) refl .3 in
       rw (f .place) (f .body, omega (arith, f .starts, f .ends, f .inside))
+
+  -- A PLACE, or where there is no such record the bundle's start, is a position of the walk
+  pub here-at-place : (i : ℕ) → (j : ℕ) × Here s (getD (placesOf s) i 0) j
+  here-at-place i = ⊎-elim there beyond (side i (length (recordsOf s)))
+    where
+      there : i < length (recordsOf s) → (j : ℕ) × Here s (getD (placesOf s) i 0) j
+      there l =
+          let h = here-each i (omega arith) in
+          let f = found-at (h .0) i (h .1) l (stepOf (drop (h .0) s)) refl .3 in
+          (i, rw (f .place) (h .1))
+
+      beyond : length (recordsOf s) ≤ i → (j : ℕ) × Here s (getD (placesOf s) i 0) j
+      beyond l = (0, rw (List·getD-eq-default (placesOf s) 0 {n = i} (omega (arith, places-length s))) (here-start s))
 
 -- the first record stands at the start
 pub first-body : (s : List ℕ) → bodyAt s 0 ≡ getD (recordsOf s) 0 noRec .body

@@ -1,5 +1,6 @@
 pub mod Steps
 pub mod Here
+pub mod ShortCuts
 pub mod PassLaws
 pub mod ChoiceLaws
 pub mod CutAndJoin

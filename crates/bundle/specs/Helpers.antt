@@ -10,9 +10,7 @@ use Rattle.common.specs.Lists.{same}
 use Rattle.layout.specs.Company.{companyOf, isAllRailways}
 use Rattle.layout.specs.Fields.{railwayOf, holdsDay}
 use Rattle.bundle.specs.Records.{Rec, stepOf, ifWhole, between}
-use Rattle.bundle.specs.Links.{link}
 use Rattle.bundle.specs.Choice.{isOf}
-use Rattle.bundle.specs.declared.links.Link.{Link}
 use Rattle.bundle.specs.declared.walk.Step.{Step}
 use Rattle.bundle.specs.declared.walk.Step.the-variants.{Unknown, Short, Whole}
 use Rattle.bundle.specs.declared.choice.Wanted.{Wanted}
@@ -61,7 +59,3 @@ firstGeneral none general f at = cond (eqb general none) (cond (eqb f 1) at none
 unfoldable pub onDayAt : List ℕ → ℕ → Wanted → Choice
 onDayAt s place w =
     cond (leb (length s) place) Nothing (cond (holdsDay (w .table) (bodyAt s place) (w .day)) (At place) NotThatDay)
-
--- a row of the code's links, its parts by name
-abbrev pub asLink : List ℕ → Link
-asLink e = link (getD e 0 0) (getD e 1 0) (getD e 2 0) (getD e 3 0) (getD e 4 0)

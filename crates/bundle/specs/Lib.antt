@@ -7,5 +7,6 @@ pub mod Faults
 pub mod Choice
 pub mod Chosen
 pub mod Helpers
+pub mod ShortCuts
 pub mod Samples
 pub mod Figures

@@ -3,9 +3,12 @@ ghost use mathlib.Core.Path.{_≡_};
 ghost use Rattle.bundle.specs.Verdict.{verdictOf};
 
 pub mod choice;
+mod hints;
 mod keys;
 mod links;
 mod passes;
+mod room;
+mod seen;
 pub mod walk;
 
 // The verdict on a bundle: how many records it has, or the first fault.
@@ -22,9 +25,5 @@ pub fn verdict(bundle: &[u8]) -> Judgement
     if LIMIT < bundle.len() {
         return Judgement::Refused(common::refuse(1, 0, 0));
     }
-    let first = passes::first_pass(bundle);
-    match first {
-        Judgement::Refused(why) => Judgement::Refused(why),
-        Judgement::Accepted(_) => passes::second_pass(bundle),
-    }
+    room::judge(bundle)
 }

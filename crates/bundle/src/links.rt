@@ -3,8 +3,8 @@ ghost use mathlib.Core.Path.{_≡_};
 ghost use lib.ListN.{getD};
 ghost use Rattle.common.specs.Lists.{any};
 ghost use Rattle.bundle.specs.Records.{recordsOf, rec};
-ghost use Rattle.bundle.specs.Helpers.{asLink};
-ghost use Rattle.bundle.specs.Links.{linkRows, noLink, isAsked, railwayServes, joins, serves, lacks, missingLink};
+ghost use Rattle.bundle.specs.Links.{link as linkOf, linkRows, noLink, isAsked, railwayServes, joins, serves, lacks, missingLink};
+ghost use Rattle.bundle.specs.ShortCuts.{IsPlace, Hinted, servesAt, SearchTells};
 use super::walk::Step;
 
 // A record of `table`, or a CO whose field `flag` is Y, wants a record of `wants` that is joined with it; else the detail is told.
@@ -26,32 +26,29 @@ const BY_OFFER_AND_RAILWAY: u32 = 2;
 
 pub const LINKS: usize = 5;
 
-const ROWS: [[u32; 5]; 5] = [
-    [layout::AR, ALWAYS, layout::RE, BY_CODE, 1],
-    [layout::AR, ALWAYS, layout::CO, BY_OFFER, 2],
-    [layout::ME, ALWAYS, layout::CO, BY_OFFER, 2],
-    [layout::CO, 33, layout::AR, BY_OFFER_AND_RAILWAY, 3],
-    [layout::CO, 37, layout::ME, BY_OFFER_AND_RAILWAY, 4],
-];
+fn row(table: u32, flag: u32, wants: u32, join: u32, detail: usize) -> Link
+    ensures { λ r. ⌜ r ≡ linkOf table flag wants join detail ⌝ }
+{
+    Link {
+        table,
+        flag,
+        wants,
+        join,
+        detail,
+    }
+}
 
+// A `match`, because a constant array would be built anew for each record.
 pub fn link_at(k: usize) -> Link
     ensures { λ r. ⌜ r ≡ getD linkRows k noLink ⌝ }
 {
-    if LINKS <= k {
-        return named([0; 5]);
-    }
-    named(ROWS[k])
-}
-
-fn named(e: [u32; 5]) -> Link
-    ensures { λ r. ⌜ r ≡ asLink e ⌝ }
-{
-    Link {
-        table: e[0],
-        flag: e[1],
-        wants: e[2],
-        join: e[3],
-        detail: e[4] as usize,
+    match k {
+        0 => row(layout::AR, ALWAYS, layout::RE, BY_CODE, 1),
+        1 => row(layout::AR, ALWAYS, layout::CO, BY_OFFER, 2),
+        2 => row(layout::ME, ALWAYS, layout::CO, BY_OFFER, 2),
+        3 => row(layout::CO, 33, layout::AR, BY_OFFER_AND_RAILWAY, 3),
+        4 => row(layout::CO, 37, layout::ME, BY_OFFER_AND_RAILWAY, 4),
+        _ => row(0, 0, 0, 0, 0),
     }
 }
 
@@ -109,41 +106,86 @@ fn serves_it<'a>(link: Link, t: u32, r: &'a [u8], u: u32, q: &'a [u8]) -> bool
     are_joined(link.join, t, r, u, q)
 }
 
-// Whether some record of the bundle is one that a record of a table wants by a link.
-fn is_served<'a>(bundle: &'a [u8], link: Link, table: u32, r: &'a [u8]) -> bool
-    ensures { λ b. ⌜ b ≡ any (serves link (rec table (now (r .entry)))) (recordsOf (now (bundle .entry))) ⌝ }
+// Whether the record at a place is one that a record of a table wants by a link.
+fn serves_at<'a>(bundle: &'a [u8], link: Link, table: u32, r: &'a [u8], place: usize) -> bool
+    ensures { λ b. ⌜ b ≡ servesAt (now (bundle .entry)) link (rec table (now (r .entry))) place ⌝ }
 {
-    let mut at = 0;
+    let here = super::walk::step_at(bundle, place);
+    let Step::Whole(t, start, next) = here else {
+        return false;
+    };
+    serves_it(link, table, r, t, &bundle[start..next])
+}
+
+// The place of the first such record from a place on, the bundle's length where there is none.
+fn served_from<'a>(bundle: &'a [u8], link: Link, table: u32, r: &'a [u8], from: usize) -> usize
+    requires { ⌜ IsPlace (now bundle) from ⌝ }
+    ensures { λ p. ⌜ SearchTells (now (bundle .entry)) link (rec table (now (r .entry))) from p ⌝ }
+{
+    let mut at = from;
     loop {
         let here = super::walk::step_at(bundle, at);
         let Step::Whole(t, start, next) = here else {
-            return false;
+            return bundle.len();
         };
         if serves_it(link, table, r, t, &bundle[start..next]) {
-            return true;
+            return at;
         }
         at = next;
     }
 }
 
-// Whether a record of a table wants link k, and none of the bundle serves.
-fn lacks_link<'a>(bundle: &'a [u8], table: u32, r: &'a [u8], k: usize) -> bool
-    ensures { λ b. ⌜ b ≡ lacks (recordsOf (now (bundle .entry))) (rec table (now (r .entry))) k ⌝ }
+// The place of such a record: from where one of its kind was last found, and then from the start.
+fn served_around<'a>(bundle: &'a [u8], link: Link, table: u32, r: &'a [u8], last: usize) -> usize
+    requires { ⌜ IsPlace (now bundle) last ⌝ }
+    ensures { λ p. ⌜ SearchTells (now (bundle .entry)) link (rec table (now (r .entry))) 0 p ⌝ }
+{
+    let place = served_from(bundle, link, table, r, last);
+    if place < bundle.len() {
+        return place;
+    }
+    served_from(bundle, link, table, r, 0)
+}
+
+// Whether some record of the bundle is one that a record of a table wants by link k. It is looked for first where a hint says.
+fn is_served<'a>(bundle: &'a [u8], hints: &mut [usize], table: u32, r: &'a [u8], k: usize) -> bool
+    requires { ⌜ Hinted (now bundle) (now hints) ⌝ }
+    ensures { λ b. ⌜ (b ≡ any (serves (getD linkRows k noLink) (rec table (now (r .entry)))) (recordsOf (now (bundle .entry)))) × Hinted (now (bundle .entry)) (now (hints .exit)) ⌝ }
 {
     let link = link_at(k);
-    if !asked(link, table, r) {
+    let name = super::hints::name(link.join == BY_CODE, table, r);
+    let slot = super::hints::slot_of(hints.len(), link.wants, name);
+    if serves_at(bundle, link, table, r, super::hints::hint_at(hints, slot)) {
+        return true;
+    }
+    let place = served_around(bundle, link, table, r, super::hints::hint_at(hints, k));
+    if bundle.len() <= place {
         return false;
     }
-    !is_served(bundle, link, table, r)
+    super::hints::put(hints, slot, place);
+    super::hints::put(hints, k, place);
+    true
+}
+
+// Whether a record of a table wants link k, and none of the bundle serves.
+fn lacks_link<'a>(bundle: &'a [u8], hints: &mut [usize], table: u32, r: &'a [u8], k: usize) -> bool
+    requires { ⌜ Hinted (now bundle) (now hints) ⌝ }
+    ensures { λ b. ⌜ (b ≡ lacks (recordsOf (now (bundle .entry))) (rec table (now (r .entry))) k) × Hinted (now (bundle .entry)) (now (hints .exit)) ⌝ }
+{
+    if !asked(link_at(k), table, r) {
+        return false;
+    }
+    !is_served(bundle, hints, table, r, k)
 }
 
 // The first link that a record of a table lacks, LINKS where it lacks none.
-pub fn missing_link<'a>(bundle: &'a [u8], table: u32, r: &'a [u8]) -> usize
-    ensures { λ k. ⌜ k ≡ missingLink (recordsOf (now (bundle .entry))) (rec table (now (r .entry))) ⌝ }
+pub fn missing_link<'a>(bundle: &'a [u8], hints: &mut [usize], table: u32, r: &'a [u8]) -> usize
+    requires { ⌜ Hinted (now bundle) (now hints) ⌝ }
+    ensures { λ k. ⌜ (k ≡ missingLink (recordsOf (now (bundle .entry))) (rec table (now (r .entry)))) × Hinted (now (bundle .entry)) (now (hints .exit)) ⌝ }
 {
     let mut k = 0;
     while k < LINKS {
-        if lacks_link(bundle, table, r, k) {
+        if lacks_link(bundle, hints, table, r, k) {
             return k;
         }
         k += 1;

@@ -3,13 +3,15 @@ ghost use mathlib.Core.Path.{_≡_};
 ghost use lib.ListN.{length};
 ghost use Rattle.common.specs.Checks.{firstFault};
 ghost use Rattle.bundle.specs.Records.{recordsOf};
+ghost use Rattle.bundle.specs.ShortCuts.{Hinted};
 ghost use Rattle.bundle.specs.Verdict.{judged, firstPass, secondPass};
 use super::Judgement;
 use super::walk::Step;
 
 // Each record by itself: 2, then 3, then 4.
-pub fn first_pass(bundle: &[u8]) -> Judgement
-    ensures { λ r. ⌜ r ≡ judged (firstFault (firstPass (now (bundle .entry)))) (length (recordsOf (now (bundle .entry)))) ⌝ }
+pub fn first_pass(bundle: &[u8], hints: &mut [usize]) -> Judgement
+    requires { ⌜ Hinted (now bundle) (now hints) ⌝ }
+    ensures { λ r. ⌜ (r ≡ judged (firstFault (firstPass (now (bundle .entry)))) (length (recordsOf (now (bundle .entry))))) × Hinted (now (bundle .entry)) (now (hints .exit)) ⌝ }
 {
     let rows = layout::rows::all();
     let n = bundle.len();
@@ -32,6 +34,7 @@ pub fn first_pass(bundle: &[u8]) -> Judgement
                 if field != 0 {
                     return Judgement::Refused(common::refuse(4, i, field));
                 }
+                super::hints::note(hints, table, &bundle[start..next], at);
                 at = next;
                 i += 1;
             }
@@ -40,11 +43,16 @@ pub fn first_pass(bundle: &[u8]) -> Judgement
     Judgement::Accepted(i)
 }
 
+// How many tables there are, each with a greatest number of its own.
+const TABLES: usize = 4;
+
 // Each record beside the others: 5, then 6, then 7, before the next record.
-pub fn second_pass(bundle: &[u8]) -> Judgement
+pub fn second_pass(bundle: &[u8], marks: &mut [u8], hints: &mut [usize]) -> Judgement
+    requires { ⌜ Hinted (now bundle) (now hints) ⌝ }
     ensures { λ r. ⌜ r ≡ judged (firstFault (secondPass (recordsOf (now (bundle .entry))))) (length (recordsOf (now (bundle .entry)))) ⌝ }
 {
     let transferor = super::keys::first_transferor(bundle);
+    let mut tops = [0u64; TABLES];
     let mut at = 0;
     let mut i = 0;
     let verdict = 'records: loop {
@@ -56,8 +64,13 @@ pub fn second_pass(bundle: &[u8]) -> Judgement
         if !common::same_bytes(layout::fields::transferor(r), transferor) {
             break 'records Judgement::Refused(common::refuse(5, i, 0));
         }
+        let number = layout::fields::key_number(table, r);
         let mut p = 0;
         let mut j = 0;
+        if super::seen::is_new(&mut tops, marks, table, number) {
+            p = at;
+            j = i;
+        }
         while j < i {
             let there = super::walk::step_at(bundle, p);
             // every record before this one was whole, so that this is never reached
@@ -70,7 +83,7 @@ pub fn second_pass(bundle: &[u8]) -> Judgement
             p = e;
             j += 1;
         }
-        let k = super::links::missing_link(bundle, table, r);
+        let k = super::links::missing_link(bundle, hints, table, r);
         if k < super::links::LINKS {
             let link = super::links::link_at(k);
             break 'records Judgement::Refused(common::refuse(7, i, link.detail));

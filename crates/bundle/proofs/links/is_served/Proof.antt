@@ -1,56 +1,59 @@
--- `bundle::links::is_served` meets its contract. The loop's invariant: the loop stands at record i, and the records from it on decide.
+-- `bundle::links::is_served` meets its contract.
 -- Assumes nothing.
-use Prim.Native.Nat.{ℕ, _+_, _-_}
-use mathlib.Core.Path.{_≡_, refl, sym, _∙_}
-use mathlib.Core.Bool.{_||_}
-use native.Mathlib.Omega.{arith}
-use lib.ListN.{length, drop}
+use mathlib.Core.Path.{refl, sym, _∙_}
+use lib.ListN.{set}
 use borrow.Author.Needs.{needs}
-use Rattle.common.specs.Lists.{any}
-use Rattle.bundle.specs.Records.{rec, recordsOf}
-use Rattle.bundle.specs.Links.{serves}
-use Rattle.bundle.proofs.Here.{Here, Stands, here-start, stands, over-there, over-nil}
+use Rattle.bundle.proofs.ShortCuts.{put-hint, served-there}
 use Rattle.bundle.proofs.links.is_served.Statement.{statement}
 use Rattle.bundle.proofs.links.is_served.Tie as tie
 
-abbrev Inv-loop : tie.InvT-loop
-Inv-loop bundle link table r at₀ at =
-    (i : ℕ) × Here bundle at i × (any (serves link (rec table r)) (recordsOf bundle) ≡ any (serves link (rec table r)) (drop i (recordsOf bundle)))
+abbrev start : tie.After-link-at → tie.Start
+start l = l .before .before .before .before
 
-abbrev μ-loop : tie.MeasureT-loop
-μ-loop bundle link table r at₀ at = length bundle - at
+abbrev link-of : tie.After-slot-of → tie.After-link-at
+link-of s = s .before .before .before
 
-abbrev Known : Type 0
-Known = tie.After-known-told Inv-loop μ-loop
-
-abbrev place : Known → tie.At-loop Inv-loop μ-loop
-place k = k .before .before .before .before
-
--- the record at hand
-found : (k : Known) → let g = k .before .here .given .0 in
-    Stands (place k .before .before .before .args .bundle .now) (place k .loop .at) (place k .loop .inv .0) (g .0) (g .1 .0) (g .1 .1 .0)
-found k = stands _ _ _ (place k .loop .inv .1) (k .before .before .before .step-at .ensures) (k .before .here .given .1)
-
--- it decides, or those after it
-turn : (c : tie.After-serves-it Inv-loop μ-loop) → let l = place (c .before .before) in
-    let a = l .before .before .before .args in
-    let p = serves (a .link) (rec (a .table) (a .r .now)) in
-    any p (recordsOf (a .bundle .now)) ≡ (c .serves-it .result || any p (drop (l .loop .inv .0 + 1) (recordsOf (a .bundle .now))))
-unfolding any
-turn c = let k = c .before .before in place k .loop .inv .2 ∙ rw (found k .cons, c .serves-it .ensures)
-
-returns : tie.Need-returns Inv-loop μ-loop
-unfolding any
+-- a hint that serves
+returns : tie.Need-returns
 returns c =
-    let f = c .before in
-    let i = f .before .loop .inv in
-    sym (i .2 ∙ rw (over-nil _ _ _ (i .1) (over-there _ _ (f .step-at .result) (c .match .keys2) (f .step-at .ensures))))
+    let v = c .before in
+    let h = v .before in
+    let s = h .before .before in
+    let l = link-of s in
+    let i = start l in
+    (sym (rw (← l .link-at .ensures) (served-there (i .args .bundle .now) (l .link-at .result) _ (h .hint-at .result) (rw (h .hint-at .ensures) (i .pre (s .slot-of .result))) (sym (v .serves-at .ensures) ∙ c .if1 .taken))), i .pre)
+
+abbrev slot : tie.After-served-around → tie.After-slot-of
+slot a = a .before .before .before .before .before .before .before
+
+returns-2 : tie.Need-returns-2
+returns-2 c =
+    let a = c .before in
+    let l = link-of (slot a) in
+    (sym (rw (← l .link-at .ensures) (a .served-around .ensures .1 (c .if2 .taken) refl)), start l .pre)
+
+-- a record found, whose place is a hint from now on
+returns-3 : tie.Need-returns-3
+returns-3 c =
+    let q = c .before .before in
+    let p = q .before .before .before .before in
+    let e = p .before .before in
+    let a = e .before in
+    let l = link-of (slot a) in
+    let i = start l in
+    let s = i .args .bundle .now in
+    let f = a .served-around .ensures .0 (e .if2 .left) in
+    let k = slot a .slot-of .result in (
+      sym (rw (← l .link-at .ensures) (f .1)),
+      rw (q .put2 .ensures, p .put .ensures)
+          (put-hint s (set (i .args .hints .now) k (a .served-around .result)) (i .args .k) (a .served-around .result) (f .0)
+          (put-hint s (i .args .hints .now) k (a .served-around .result) (f .0) (i .pre))),
+    )
 
 pub is-served-spec : {M : Type 1} → statement M
 is-served-spec =
     tie.close (tie.spec
-    Inv-loop μ-loop (λ c. (0, here-start _, refl)) (λ c κs. search needs) (λ c. search needs) returns (λ c. found c .ends)
-    (λ c. omega (arith, found c .ends, found c .inside)) (λ c. found c .inside) (λ c κs. search needs)
-    (λ c. sym (turn (c .before) ∙ rw (c .if1 .taken)))
-    (λ c. let w = found (c .before .before .before) in omega (arith, w .starts, w .ends, w .inside))
-    (λ c. let k = c .before .before .before in (place k .loop .inv .0 + 1, found k .then, turn (c .before) ∙ rw (c .if1 .left))))
+    (λ c κs. search needs) (λ c κs. search needs) (λ c κs. search needs) (λ c κs. search needs) (λ c κs. search needs) (λ c. search needs) returns
+    (λ c κs. search needs)
+    (λ c κs. rw (c .hint-at2 .ensures) (start (link-of (c .before .before .before .before .before .before)) .pre (start (link-of (c .before .before .before .before .before .before)) .args .k)))
+    (λ c. search needs) returns-2 (λ c κs. search needs) (λ c κs. search needs) (λ c. search needs) returns-3)

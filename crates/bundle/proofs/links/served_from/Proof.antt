@@ -1,0 +1,76 @@
+-- `bundle::links::served_from` meets its contract. The loop's invariant: the loop stands at record i, and where it began at the start the records from it on
+-- decide.
+-- Assumes nothing.
+use Prim.Native.Nat.{ℕ, _+_, _-_}
+use mathlib.Core.Path.{_≡_, refl, sym, _∙_}
+use mathlib.Core.Bool.{true, _||_}
+use native.Mathlib.Omega.{arith}
+use lib.ListN.{length, drop}
+use borrow.Author.Needs.{needs}
+use Rattle.common.specs.Lists.{any}
+use Rattle.common.proofs.Lists.{at-any}
+use Rattle.bundle.specs.Records.{rec, noRec, recordsOf}
+use Rattle.bundle.specs.Links.{serves}
+use Rattle.bundle.proofs.Here.{Here, Stands, stands, over-there, over-nil}
+use Rattle.bundle.proofs.ShortCuts.{place-here}
+use Rattle.bundle.proofs.links.served_from.Statement.{statement}
+use Rattle.bundle.proofs.links.served_from.Tie as tie
+
+abbrev Inv-loop : tie.InvT-loop
+Inv-loop bundle link table r from at₀ at =
+    (i : ℕ) × Here bundle at i
+    × (from ≡ 0 → any (serves link (rec table r)) (recordsOf bundle) ≡ any (serves link (rec table r)) (drop i (recordsOf bundle)))
+
+abbrev μ-loop : tie.MeasureT-loop
+μ-loop bundle link table r from at₀ at = length bundle - at
+
+abbrev Known : Type 0
+Known = tie.After-known-told Inv-loop μ-loop
+
+abbrev place : Known → tie.At-loop Inv-loop μ-loop
+place k = k .before .before .before .before
+
+-- the record at hand
+found : (k : Known) → let g = k .before .here .given .0 in
+    Stands (place k .before .before .before .args .bundle .now) (place k .loop .at) (place k .loop .inv .0) (g .0) (g .1 .0) (g .1 .1 .0)
+found k = stands _ _ _ (place k .loop .inv .1) (k .before .before .before .step-at .ensures) (k .before .here .given .1)
+
+loop-holds : tie.Need-loop-holds Inv-loop μ-loop
+loop-holds c =
+    let a = c .before .before .args in
+    let h = place-here (a .bundle .now) (a .from) (c .before .before .pre) in
+    (h .0, h .1, λ e. let z : h .0 ≡ 0 = omega (arith, h .1 .counted) in rw z)
+
+-- where none stood before it, it decides or those after it do
+turn : (c : tie.After-serves-it Inv-loop μ-loop) → let l = place (c .before .before) in
+    let a = l .before .before .before .args in
+    let p = serves (a .link) (rec (a .table) (a .r .now)) in
+    a .from ≡ 0 → any p (recordsOf (a .bundle .now)) ≡ (c .serves-it .result || any p (drop (l .loop .inv .0 + 1) (recordsOf (a .bundle .now))))
+unfolding any
+turn c e = let k = c .before .before in place k .loop .inv .2 e ∙ rw (found k .cons, c .serves-it .ensures)
+
+returns : tie.Need-returns Inv-loop μ-loop
+unfolding any
+returns c =
+    let f = c .before in
+    let i = f .before .loop .inv in
+    let o = over-nil _ _ _ (i .1) (over-there _ _ (f .step-at .result) (c .match .keys2) (f .step-at .ensures)) in
+    ((λ l. absurd (omega arith)), λ l e. i .2 e ∙ rw o)
+
+returns-2 : tie.Need-returns-2 Inv-loop μ-loop
+returns-2 c =
+    let v = c .before in
+    let k = v .before .before in
+    let w = found k in
+    let i = place k .loop .inv in (
+      (λ l. ((i .0, w .place), at-any _ noRec _ (i .0) (w .below) (rw (w .at) (sym (v .serves-it .ensures) ∙ c .if1 .taken)))),
+      λ l e. absurd (omega (arith, w .starts, w .ends, w .inside)),
+    )
+
+pub served-from-spec : {M : Type 1} → statement M
+served-from-spec =
+    tie.close (tie.spec
+    Inv-loop μ-loop loop-holds (λ c κs. search needs) (λ c. search needs) returns (λ c. found c .ends)
+    (λ c. omega (arith, found c .ends, found c .inside)) (λ c. found c .inside) (λ c κs. search needs) returns-2
+    (λ c. let w = found (c .before .before .before) in omega (arith, w .starts, w .ends, w .inside))
+    (λ c. let k = c .before .before .before in (place k .loop .inv .0 + 1, found k .then, λ e. turn (c .before) e ∙ rw (c .if1 .left))))

@@ -1,0 +1,33 @@
+-- `bundle::links::serves_at` meets its contract.
+-- Assumes nothing.
+use Prim.Native.Nat.{_≤_}
+use mathlib.Core.Path.{_∙_}
+use native.Mathlib.Omega.{arith}
+use lib.ListN.{length}
+use borrow.Author.Needs.{needs}
+use Rattle.bundle.proofs.Here.{over-there, step-lies}
+use Rattle.bundle.proofs.ShortCuts.{none-there, one-there}
+use Rattle.bundle.proofs.links.serves_at.Statement.{statement}
+use Rattle.bundle.proofs.links.serves_at.Tie as tie
+
+returns : tie.Need-returns
+returns c =
+    let f = c .before in
+    let a = f .before .before .before .args in
+    none-there (a .bundle .now) (a .link) _ (a .place) (over-there _ _ (f .step-at .result) (c .match .keys2) (f .step-at .ensures))
+
+lies : (c : tie.After-known-told) → let g = c .before .here .given .0 in
+    (g .1 .0 ≤ g .1 .1 .0) × (g .1 .1 .0 ≤ length (c .before .before .before .before .before .before .args .bundle .now))
+lies c = step-lies _ _ (c .before .before .before .step-at .ensures) (c .before .here .given .1)
+
+returns-2 : tie.Need-returns-2
+returns-2 c =
+    let k = c .before .before in
+    let f = k .before .before .before in
+    let a = f .before .before .before .args in
+    c .serves-it .ensures ∙ one-there (a .bundle .now) (a .link) _ (a .place) (f .step-at .ensures) (k .before .here .given .1)
+
+pub serves-at-spec : {M : Type 1} → statement M
+serves-at-spec =
+    tie.close (tie.spec
+    (λ c κs. search needs) (λ c. search needs) returns (λ c. lies c .0) (λ c. omega (arith, lies c)) (λ c. lies c .1) (λ c κs. search needs) returns-2)

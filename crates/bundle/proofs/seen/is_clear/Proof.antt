@@ -1,0 +1,13 @@
+-- `bundle::seen::is_clear` meets its contract.
+-- Assumes nothing.
+use borrow.Author.Tests.{eq-eqb, ne-eqb}
+use Rattle.bundle.specs.ShortCuts.{excludes}
+use Rattle.bundle.proofs.seen.is_clear.Statement.{statement}
+use Rattle.bundle.proofs.seen.is_clear.Tie as tie
+
+pub is-clear-spec : {M : Type 1} → statement M
+unfolding excludes
+is-clear-spec =
+    tie.close (tie.spec
+    (λ c. simp (eq-eqb _ _ (c .if1 .taken))) (λ c. simp (ne-eqb _ _ (c .before .if1 .left), eq-eqb _ _ (c .if2 .taken)))
+    (λ c. simp (ne-eqb _ _ (c .before .if1 .left), ne-eqb _ _ (c .if2 .left))))

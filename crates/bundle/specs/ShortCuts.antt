@@ -1,0 +1,70 @@
+-- What the verdict keeps in mind so that its searches are short: which numbers of keys it has seen, and where records stand. Nothing here has to be
+-- believed: no promise and no answer of a call is stated with it.
+-- Assumes nothing.
+use Prim.Native.Nat.{ℕ, _+_, _*_, _/_, _%_, _≤_, _<_}
+use mathlib.Core.Path.{_≡_}
+use mathlib.Core.Bool.{Bool, true, false, cond, not, _&&_, _||_}
+use mathlib.Core.List.{List}
+use lib.Dec.{eqb}
+use lib.ListN.{length, getD}
+use Rattle.common.specs.Lists.{any}
+use Rattle.common.specs.Ranks.{rankOf}
+use Rattle.layout.specs.Fields.{offerOf, codeOf}
+use Rattle.layout.specs.Helpers.{tableStep}
+use Rattle.bundle.specs.Records.{Rec, rec, ifWhole, between, recordsOf}
+use Rattle.bundle.specs.Links.{serves}
+use Rattle.bundle.specs.Helpers.{stepAt, placesOf}
+use Rattle.bundle.specs.declared.links.Link.{Link}
+
+-- NUMBERS SEEN. By the greatest number of each table: n of table t may be among them
+abbrev pub InTops : List ℕ → ℕ → ℕ → Type 0
+InTops tops t n = t < length tops → n ≤ getD tops t 0
+
+-- By marks, one at the remainder of each number: 0 where nothing was seen, 255 where numbers of several prints were, and else the print of all that were
+abbrev pub printOf : ℕ → ℕ → ℕ
+printOf m n = n / m % 254 + 1
+
+unfoldable pub excludes : ℕ → ℕ → Bool
+excludes mark print = eqb mark 0 || (not (eqb mark 255) && not (eqb mark print))
+
+unfoldable pub marked : ℕ → ℕ → ℕ
+marked mark print = cond (eqb mark 0 || eqb mark print) print 255
+
+abbrev pub InMarks : List ℕ → ℕ → Type 0
+InMarks marks n = 0 < length marks → excludes (getD marks (n % length marks) 0) (printOf (length marks) n) ≡ false
+
+abbrev pub Seen : List ℕ → List ℕ → ℕ → ℕ → Type 0
+Seen tops marks t n = InTops tops t n × InMarks marks n
+
+-- what is told of a number, by what was seen before and after: one told to be new was not seen, it is seen now, and nothing is forgotten
+abbrev pub Tells : (ℕ → ℕ → Type 0) → (ℕ → ℕ → Type 0) → ℕ → ℕ → Bool → Type 0
+Tells before after t n isNew = (isNew ≡ true → before t n → ⊥) × after t n × ((u m : ℕ) → before u m → after u m)
+
+-- PLACES of records, or the bundle's start
+abbrev pub IsPlace : List ℕ → ℕ → Type 0
+IsPlace s p = (i : ℕ) × (getD (placesOf s) i 0 ≡ p)
+
+-- every hint is a place
+abbrev pub Hinted : List ℕ → List ℕ → Type 0
+Hinted s hints = (k : ℕ) → IsPlace s (getD hints k 0)
+
+-- a change of hints that a place may be among
+abbrev pub KeepsHints : ℕ → List ℕ → List ℕ → Type 0
+KeepsHints p before after = (s : List ℕ) → IsPlace s p → Hinted s before → Hinted s after
+
+-- where the hint for a table and a name stands among n hints; a name is a code, or an offer
+unfoldable pub slotOf : ℕ → ℕ → List ℕ → ℕ
+slotOf n t name = cond (eqb n 0) 0 ((rankOf name + t * tableStep) % n)
+
+unfoldable pub nameOf : Bool → ℕ → List ℕ → List ℕ
+nameOf coded t body = cond coded (codeOf t body) (offerOf body)
+
+-- the record at a place serves
+unfoldable pub servesAt : List ℕ → Link → Rec → ℕ → Bool
+servesAt s l r p = ifWhole (stepAt s p) false (λ t start next. serves l r (rec t (between start next s)))
+
+-- what a search from a place on tells: where a record stands that serves, or the bundle's length, and then none serves if it began at the start
+abbrev pub SearchTells : List ℕ → Link → Rec → ℕ → ℕ → Type 0
+SearchTells s l r from p =
+    (p < length s → IsPlace s p × (any (serves l r) (recordsOf s) ≡ true)) ×
+    (length s ≤ p → from ≡ 0 → any (serves l r) (recordsOf s) ≡ false)
