@@ -7,17 +7,22 @@
 enum { MARK = 2, RECORD_ROOM = 1300 };
 
 static const char MARKS[] = "CO RE AR ME";
-static const size_t LENGTHS[] = {155, 440, 49, 1231};
+enum table { CO, RE, AR, ME, TABLES };
+static const size_t LENGTHS[TABLES] = {155, 440, 49, 1231};
 
-const struct recipe TEXT_HEAVY = {"text-heavy", 1, 0, 100, 34, 1};
-const struct recipe CO_HEAVY = {"CO-heavy", 100, 1, 0, 0, 1};
-const struct recipe AR_HEAVY = {"AR-heavy", 1, 100, 0, 0, 1};
-const struct recipe MIXED = {"mixed", 5, 5, 1, 0, 1};
-const struct recipe FOUR_CARDS = {"four cards", 5, 5, 1, 0, 4};
+const struct recipe TEXT_HEAVY = {"text-heavy", 1, 0, 100, 34, 1, 0, 0};
+const struct recipe CO_HEAVY = {"CO-heavy", 100, 1, 0, 0, 1, 0, 0};
+const struct recipe AR_HEAVY = {"AR-heavy", 1, 100, 0, 0, 1, 0, 0};
+const struct recipe MIXED = {"mixed", 5, 5, 1, 0, 1, 0, 0};
+const struct recipe FOUR_CARDS = {"four cards", 5, 5, 1, 0, 4, 0, 0};
+const struct recipe BY_TABLE = {"by table", 4, 4, 1, 0, 3, 0, 1};
+const struct recipe OWN_RAILWAYS = {"own railways", 4, 4, 4, 0, 3, 1, 1};
+const struct recipe MANY_OFFERS = {"many offers", 1, 1, 0, 0, 1, 0, 1};
 
 /* Fields 5 to 10 of an AR record: discount, whether it is applied together with others, rating, companion, rounding and factor. The first
  * code's are those of every recipe. */
 static const char *const CARDS[] = {"030000Y001N+050", "010000Y001NN000", "005000Y002N-010", "060000N001NN000"};
+enum { CARD_COUNT = sizeof CARDS / sizeof *CARDS };
 
 /* ---- chance */
 
@@ -49,14 +54,14 @@ static void add(struct bundle *b, const char *record) {
     b->records++;
 }
 
-static void add_re(struct bundle *b, unsigned code) {
+void add_re(struct bundle *b, unsigned code) {
     char text[416], record[RECORD_ROOM];
     write_text(text, 415);
     snprintf(record, sizeof record, "RE1185%03u%s202401010120241231", code, text);
     add(b, record);
 }
 
-static void add_co(struct bundle *b, struct recipe recipe, unsigned offer, unsigned railway) {
+void add_co(struct bundle *b, struct recipe recipe, unsigned offer, unsigned railway) {
     char text[101], record[RECORD_ROOM];
     write_text(text, 100);
     snprintf(record, sizeof record, "CO1185%05u%04u%sN01991NN%cNNN%cN025000+005202401010120241231", offer, railway, text,
@@ -64,9 +69,9 @@ static void add_co(struct bundle *b, struct recipe recipe, unsigned offer, unsig
     add(b, record);
 }
 
-static void add_ar(struct bundle *b, unsigned offer, unsigned railway, unsigned code) {
+void add_ar(struct bundle *b, unsigned offer, unsigned railway, unsigned code) {
     char record[RECORD_ROOM];
-    snprintf(record, sizeof record, "AR1185%05u%04u%03u%s202401010120241231", offer, railway, code, CARDS[code - 1]);
+    snprintf(record, sizeof record, "AR1185%05u%04u%03u%s202401010120241231", offer, railway, code, CARDS[(code - 1) % CARD_COUNT]);
     add(b, record);
 }
 
@@ -83,24 +88,31 @@ static void add_types(struct bundle *b, struct recipe recipe, size_t size) {
     size_t share = size * (size_t)recipe.re_percent / 100;
     unsigned code = 1;
     do add_re(b, code++);
-    while (code <= (unsigned)recipe.codes || (fits(b, share, MARK + LENGTHS[1]) && code <= BUNDLE_CODES));
+    while (code <= (unsigned)recipe.codes || (fits(b, share, MARK + LENGTHS[RE]) && code <= BUNDLE_CODES));
 }
 
-/* Bytes of an offer's records for one railway. */
+/* Records of a table that an offer has for one railway. */
+static int count_of(struct recipe recipe, enum table table, int railway) {
+    if (table == CO) return recipe.co > railway;
+    if (railway < recipe.own_only) return 0;
+    if (table == AR) return recipe.ar > railway ? recipe.codes : 0;
+    return table == ME && recipe.me > railway;
+}
+
 static size_t bytes_for(struct recipe recipe, int railway) {
-    size_t cards = (recipe.ar > railway) * (size_t)recipe.codes;
-    return (recipe.co > railway) * (MARK + LENGTHS[0]) + cards * (MARK + LENGTHS[2]) + (recipe.me > railway) * (MARK + LENGTHS[3]);
+    size_t bytes = 0;
+    for (enum table table = CO; table < TABLES; table++) bytes += (size_t)count_of(recipe, table, railway) * (MARK + LENGTHS[table]);
+    return bytes;
 }
 
-static void add_railway(struct bundle *b, struct recipe recipe, unsigned offer, int railway) {
-    if (recipe.co > railway) add_co(b, recipe, offer, (unsigned)railway);
-    for (int code = 1; recipe.ar > railway && code <= recipe.codes; code++) add_ar(b, offer, (unsigned)railway, (unsigned)code);
-    if (recipe.me > railway) add_me(b, offer, (unsigned)railway);
+static void add_of_table(struct bundle *b, struct recipe recipe, enum table table, unsigned offer, int railway) {
+    int count = count_of(recipe, table, railway);
+    if (table == CO && count > 0) add_co(b, recipe, offer, (unsigned)railway);
+    for (int code = 1; table == AR && code <= count; code++) add_ar(b, offer, (unsigned)railway, (unsigned)code);
+    if (table == ME && count > 0) add_me(b, offer, (unsigned)railway);
 }
 
-void make_bundle(struct bundle *b, struct recipe recipe, size_t size) {
-    b->length = b->records = 0;
-    add_types(b, recipe, size);
+static void add_by_offer(struct bundle *b, struct recipe recipe, size_t size) {
     unsigned offer = 1;
     int railway = 0;
     for (size_t bytes; fits(b, size, bytes = bytes_for(recipe, railway)); railway++) {
@@ -109,34 +121,52 @@ void make_bundle(struct bundle *b, struct recipe recipe, size_t size) {
             railway = -1;
             continue;
         }
-        add_railway(b, recipe, offer, railway);
+        for (enum table table = CO; table < TABLES; table++) add_of_table(b, recipe, table, offer, railway);
     }
+}
+
+static void add_by_table(struct bundle *b, struct recipe recipe, size_t size) {
+    size_t of_offer = 0;
+    for (int railway = 0; bytes_for(recipe, railway) > 0; railway++) of_offer += bytes_for(recipe, railway);
+    unsigned offers = (unsigned)((size - b->length) / of_offer);
+    for (enum table table = CO; table < TABLES; table++)
+        for (unsigned offer = 1; offer <= offers; offer++)
+            for (int railway = 0; bytes_for(recipe, railway) > 0; railway++) add_of_table(b, recipe, table, offer, railway);
+}
+
+void make_bundle(struct bundle *b, struct recipe recipe, size_t size) {
+    b->length = b->records = 0;
+    add_types(b, recipe, size);
+    if (recipe.by_table) add_by_table(b, recipe, size);
+    else add_by_offer(b, recipe, size);
 }
 
 /* An offer has 10,000 railways, and with one code as many keys: three offers are enough for all AR records. */
 enum { COSTLIEST_OFFERS = 3, RAILWAYS = 10000 };
 
 static void add_needed(struct bundle *b) {
-    const struct recipe no_links = {"", 1, 0, 0, 0, 1};
+    const struct recipe no_links = {"", 1, 0, 0, 0, 1, 0, 0};
     for (unsigned offer = 1; offer <= COSTLIEST_OFFERS; offer++) add_co(b, no_links, offer, 0);
     add_re(b, 1);
 }
 
 void make_costliest(struct bundle *b, int needed_last) {
-    size_t needed = COSTLIEST_OFFERS * (MARK + LENGTHS[0]) + MARK + LENGTHS[1];
+    size_t needed = COSTLIEST_OFFERS * (MARK + LENGTHS[CO]) + MARK + LENGTHS[RE];
     b->length = b->records = 0;
     if (!needed_last) add_needed(b);
     size_t end = needed_last ? BUNDLE_LIMIT - needed : BUNDLE_LIMIT;
-    for (unsigned k = 0; fits(b, end, MARK + LENGTHS[2]); k++) add_ar(b, 1 + k / RAILWAYS, k % RAILWAYS, 1);
+    for (unsigned k = 0; fits(b, end, MARK + LENGTHS[AR]); k++) add_ar(b, 1 + k / RAILWAYS, k % RAILWAYS, 1);
     if (needed_last) add_needed(b);
 }
 
 /* ---- records of a made bundle, which is valid */
 
-static size_t length_at(const struct bundle *b, size_t at) {
+static enum table table_at(const struct bundle *b, size_t at) {
     const char *found = strstr(MARKS, (char[3]){(char)b->bytes[at], (char)b->bytes[at + 1], '\0'});
-    return MARK + LENGTHS[(found - MARKS) / 3];
+    return (enum table)((found - MARKS) / 3);
 }
+
+static size_t length_at(const struct bundle *b, size_t at) { return MARK + LENGTHS[table_at(b, at)]; }
 
 static size_t start_of(const struct bundle *b, size_t record) {
     size_t at = 0;
@@ -149,6 +179,35 @@ unsigned middle_offer(const struct bundle *b) {
     char offer[6] = "";
     memcpy(offer, b->bytes + start_of(b, middle) + MARK + 4, 5);
     return (unsigned)atoi(offer);
+}
+
+/* ---- order */
+
+int is_sorted(const struct bundle *b) {
+    static const size_t KEY_LENGTHS[TABLES] = {9, 3, 12, 9};
+    const uint8_t *last[TABLES] = {NULL, NULL, NULL, NULL};
+    for (size_t at = 0; at < b->length; at += length_at(b, at)) {
+        enum table table = table_at(b, at);
+        const uint8_t *key = b->bytes + at + MARK + 4;
+        if (last[table] != NULL && memcmp(last[table], key, KEY_LENGTHS[table]) >= 0) return 0;
+        last[table] = key;
+    }
+    return 1;
+}
+
+void shuffle(struct bundle *b) {
+    static struct bundle sorted;
+    static size_t starts[BUNDLE_LIMIT / MARK];
+    memcpy(&sorted, b, sizeof sorted);
+    size_t count = 0;
+    for (size_t at = 0; at < sorted.length; at += length_at(&sorted, at)) starts[count++] = at;
+    size_t length = 0;
+    for (; count > 0; count--) {
+        size_t drawn = chance((unsigned)count), from = starts[drawn], bytes = length_at(&sorted, from);
+        memcpy(b->bytes + length, sorted.bytes + from, bytes);
+        length += bytes;
+        starts[drawn] = starts[count - 1];
+    }
 }
 
 /* ---- other cards */
@@ -168,6 +227,8 @@ void draw_cards(struct bundle *b) {
 }
 
 /* ---- damage */
+
+void break_last_field(struct bundle *b) { b->bytes[b->length - 1] = 'X'; }
 
 static void change_byte(struct bundle *b) {
     static const char LIKELY[] = " 019YN+-0CRAMEO\n\x7f\xa0";

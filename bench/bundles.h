@@ -13,18 +13,34 @@ struct bundle {
 };
 
 /* What each offer of a bundle has: so many CO and ME records, the first for all railways, then railways 1, 2, ..., and for as many railways as
- * `ar` says one AR record of each of `codes` codes. Before the offers stand RE records: one a code, or as many as fill `re_percent` of the
- * size. */
+ * `ar` says one AR record of each of `codes` codes. With `own_only` there is no AR and no ME for all railways. Before the offers stand RE
+ * records: one a code, or as many as fill `re_percent` of the size. The offers follow each other, or `by_table` their CO, then all AR, then all
+ * ME. */
 struct recipe {
     const char *name;
-    int co, ar, me, re_percent, codes;
+    int co, ar, me, re_percent, codes, own_only, by_table;
 };
 
 /* FOUR_CARDS has codes 1 to 4: the first three are applied together, two of them at an equal rating, and the fourth alone. */
 extern const struct recipe TEXT_HEAVY, CO_HEAVY, AR_HEAVY, MIXED, FOUR_CARDS;
 
-/* Fills `size` bytes as far as whole records do. Offers count from 1, codes too. */
+/* As deliveries are, table by table: offers with records for all railways and for three; the same with AR and ME for those three alone; and very
+ * many offers with one CO and one AR each. */
+extern const struct recipe BY_TABLE, OWN_RAILWAYS, MANY_OFFERS;
+
+/* Fills `size` bytes as far as whole records do, by table as far as whole offers do. Offers count from 1, codes too. The bundle is sorted. */
 void make_bundle(struct bundle *b, struct recipe recipe, size_t size);
+
+/* Whether the keys of each table rise through the bundle. */
+int is_sorted(const struct bundle *b);
+
+/* The same records in an order by chance. */
+void shuffle(struct bundle *b);
+
+/* One record more. Whether a CO needs an AR and an ME is as the recipe has these. */
+void add_re(struct bundle *b, unsigned code);
+void add_co(struct bundle *b, struct recipe recipe, unsigned offer, unsigned railway);
+void add_ar(struct bundle *b, unsigned offer, unsigned railway, unsigned code);
 
 /* The costliest bundle there is: as many AR records as fit beside the one RE and the three CO records that they need, all keys different. Every
  * pair of records is compared; with RE and CO last every search for a link walks the whole bundle, with them first it ends at once. */
@@ -32,6 +48,9 @@ void make_costliest(struct bundle *b, int needed_last);
 
 /* The offer of the record in the middle of a made bundle: one to price. */
 unsigned middle_offer(const struct bundle *b);
+
+/* Breaks the last field of the last record, which a verdict comes to after all other fields. */
+void break_last_field(struct bundle *b);
 
 /* Breaks a bundle in one of several ways, or by luck leaves it good. */
 void damage(struct bundle *b);

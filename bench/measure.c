@@ -4,6 +4,9 @@
 #include <stdlib.h>
 #include <time.h>
 
+/* Seconds from which on a first call, with the caches yet to fill, counts like any other. */
+static const double LONG_CALL = 0.1;
+
 static double now(void) {
     struct timespec t;
     clock_gettime(CLOCK_PROCESS_CPUTIME_ID, &t);
@@ -42,15 +45,23 @@ double time_of(int runs, int calls, action *before, action *work, void *with) {
     return best;
 }
 
-int calls_for(action *before, action *work, void *with) {
-    double once = mean_of(1, before, work, with);
-    return once > 0.01 ? 1 : (int)(0.01 / (once > 1e-6 ? once : 1e-6));
+static int calls_in_time(double once) { return once > 0.01 ? 1 : (int)(0.01 / (once > 1e-6 ? once : 1e-6)); }
+
+int calls_for(action *before, action *work, void *with) { return calls_in_time(mean_of(1, before, work, with)); }
+
+double best_time(int runs, action *work, void *with) {
+    double first = mean_of(1, NULL, work, with);
+    if (first < LONG_CALL) return time_of(runs, calls_in_time(first), NULL, work, with);
+    if (runs == 1) return first;
+    double others = time_of(runs - 1, 1, NULL, work, with);
+    return first < others ? first : others;
 }
 
 void tell_heading(const char *title) { printf("\n%s\n%-44s %13s  %-22s %13s %8s\n", title, "", "engine, us", "beside", "its time, us", "ratio"); }
 
 void tell(const char *what, double engine, const char *other_name, double other) {
-    printf("%-44s %13.2f  %-22s %13.2f %8.2f\n", what, engine * 1e6, other_name, other * 1e6, engine / other);
+    double ratio = engine / other;
+    printf("%-44s %13.2f  %-22s %13.2f %8.*f\n", what, engine * 1e6, other_name, other * 1e6, ratio < 0.1 ? 5 : 2, ratio);
     fflush(stdout);
 }
 

@@ -11,6 +11,9 @@ double time_of(int runs, int calls, action *before, action *work, void *with);
 /* Calls that take about a hundredth of a second together. */
 int calls_for(action *before, action *work, void *with);
 
+/* The best of `runs` such times, with as many calls as that makes; of a long call its first counts as a run. */
+double best_time(int runs, action *work, void *with);
+
 /* One row: what was done, the engine's time, what it is compared with and its time, and the engine's time over that. */
 void tell_heading(const char *title);
 void tell(const char *what, double engine, const char *other_name, double other);

@@ -143,7 +143,8 @@ static const struct row *broken_row(const struct plain_table *table, const uint8
     return NULL;
 }
 
-static offers_judgement check_records(const uint8_t *bundle, size_t length) {
+offers_judgement plain_check_records(const uint8_t *bundle, size_t length) {
+    if (length > LIMIT) return refused(OFFERS_BUNDLE_TOO_LONG, 0, 0);
     size_t records = 0;
     for (size_t at = 0; at < length; records++) {
         const struct plain_table *table = plain_table_at(bundle + at, length - at);
@@ -158,12 +159,43 @@ static offers_judgement check_records(const uint8_t *bundle, size_t length) {
 
 /* ---- the records, each beside the others; all marks are known and all records whole */
 
-/* The first earlier record with the same key, i itself if there is none. */
-static size_t same_key(const uint8_t *bundle, size_t length, size_t i, const struct plain_table *table, const uint8_t *record) {
+/* The detail of the first link that is missing, 0 if none is. */
+static uint64_t missing_link(struct plain_searches by, const void *in, const struct plain_table *table, const uint8_t *record) {
+    if (table == &PLAIN_AR && !by.has(in, &PLAIN_RE, record)) return 1;
+    if ((table == &PLAIN_AR || table == &PLAIN_ME) && !by.has(in, &PLAIN_CO, record)) return 2;
+    if (table == &PLAIN_CO && record[122 - 1] == 'Y' && !by.has(in, &PLAIN_AR, record)) return 3;
+    if (table == &PLAIN_CO && record[126 - 1] == 'Y' && !by.has(in, &PLAIN_ME, record)) return 4;
+    return 0;
+}
+
+offers_judgement plain_check_together(const uint8_t *bundle, size_t length, struct plain_searches by, const void *in) {
+    size_t i = 0;
+    for (size_t at = 0; at < length; i++) {
+        const struct plain_table *table = plain_table_at(bundle + at, length - at);
+        const uint8_t *record = bundle + at + PLAIN_MARK;
+        if (memcmp(record, bundle + PLAIN_MARK, 4) != 0) return refused(OFFERS_OTHER_TRANSFEROR, i, 0);
+        size_t j = by.same_key(in, i, table, record);
+        if (j < i) return refused(OFFERS_KEY_REPEATED, i, j);
+        uint64_t detail = missing_link(by, in, table, record);
+        if (detail != 0) return refused(OFFERS_LINK_MISSING, i, detail);
+        at += plain_step(table);
+    }
+    return (offers_judgement){0, 0, 0, i};
+}
+
+/* ---- both searches as loops over the records */
+
+struct lent {
+    const uint8_t *bundle;
+    size_t length;
+};
+
+static size_t same_key(const void *in, size_t i, const struct plain_table *table, const uint8_t *record) {
+    const struct lent *lent = in;
     size_t at = 0;
     for (size_t j = 0; j < i; j++) {
-        const struct plain_table *other = plain_table_at(bundle + at, length - at);
-        if (other == table && memcmp(bundle + at + PLAIN_MARK + 4, record + 4, table->key_length) == 0) return j;
+        const struct plain_table *other = plain_table_at(lent->bundle + at, lent->length - at);
+        if (other == table && memcmp(lent->bundle + at + PLAIN_MARK + 4, record + 4, table->key_length) == 0) return j;
         at += plain_step(other);
     }
     return i;
@@ -180,41 +212,25 @@ static bool serves(const struct plain_table *wanted, const uint8_t *record, cons
     return wanted == &PLAIN_CO || railway_serves(record, other);
 }
 
-static bool has(const uint8_t *bundle, size_t length, const struct plain_table *wanted, const uint8_t *record) {
-    for (size_t at = 0; at < length;) {
-        const struct plain_table *table = plain_table_at(bundle + at, length - at);
-        if (table == wanted && serves(wanted, record, bundle + at + PLAIN_MARK)) return true;
+static inline bool walk_for(const struct lent *lent, const struct plain_table *wanted, const uint8_t *record) {
+    for (size_t at = 0; at < lent->length;) {
+        const struct plain_table *table = plain_table_at(lent->bundle + at, lent->length - at);
+        if (table == wanted && serves(wanted, record, lent->bundle + at + PLAIN_MARK)) return true;
         at += plain_step(table);
     }
     return false;
 }
 
-/* The detail of the first link that is missing, 0 if none is. */
-static uint64_t missing_link(const uint8_t *bundle, size_t length, const struct plain_table *table, const uint8_t *record) {
-    if (table == &PLAIN_AR && !has(bundle, length, &PLAIN_RE, record)) return 1;
-    if ((table == &PLAIN_AR || table == &PLAIN_ME) && !has(bundle, length, &PLAIN_CO, record)) return 2;
-    if (table == &PLAIN_CO && record[122 - 1] == 'Y' && !has(bundle, length, &PLAIN_AR, record)) return 3;
-    if (table == &PLAIN_CO && record[126 - 1] == 'Y' && !has(bundle, length, &PLAIN_ME, record)) return 4;
-    return 0;
-}
-
-static offers_judgement check_together(const uint8_t *bundle, size_t length) {
-    size_t i = 0;
-    for (size_t at = 0; at < length; i++) {
-        const struct plain_table *table = plain_table_at(bundle + at, length - at);
-        const uint8_t *record = bundle + at + PLAIN_MARK;
-        if (memcmp(record, bundle + PLAIN_MARK, 4) != 0) return refused(OFFERS_OTHER_TRANSFEROR, i, 0);
-        size_t j = same_key(bundle, length, i, table, record);
-        if (j < i) return refused(OFFERS_KEY_REPEATED, i, j);
-        uint64_t detail = missing_link(bundle, length, table, record);
-        if (detail != 0) return refused(OFFERS_LINK_MISSING, i, detail);
-        at += plain_step(table);
-    }
-    return (offers_judgement){0, 0, 0, i};
+/* The compiler makes one walk for each table, with no test at every step of which it is. */
+static int has(const void *in, const struct plain_table *wanted, const uint8_t *record) {
+    if (wanted == &PLAIN_RE) return walk_for(in, &PLAIN_RE, record);
+    if (wanted == &PLAIN_CO) return walk_for(in, &PLAIN_CO, record);
+    return walk_for(in, wanted, record);
 }
 
 offers_judgement plain_verdict(const uint8_t *bundle, size_t length) {
-    if (length > LIMIT) return refused(OFFERS_BUNDLE_TOO_LONG, 0, 0);
-    offers_judgement alone = check_records(bundle, length);
-    return alone.number != 0 ? alone : check_together(bundle, length);
+    offers_judgement alone = plain_check_records(bundle, length);
+    if (alone.number != 0) return alone;
+    struct lent lent = {bundle, length};
+    return plain_check_together(bundle, length, (struct plain_searches){same_key, has}, &lent);
 }

@@ -18,4 +18,14 @@ const struct plain_table *plain_table_at(const uint8_t *bytes, size_t left);
 /* Bytes of a record with its mark. */
 size_t plain_step(const struct plain_table *table);
 
+/* The verdict's two halves, for peers that search in another way: the bundle's length and each record by itself; then, where all are good, the
+ * records beside each other. `same_key` is the first record with the key of record i, i itself if none is earlier; `has` is whether a table has
+ * what the record wants there. Both are handed `in`. */
+struct plain_searches {
+    size_t (*same_key)(const void *in, size_t i, const struct plain_table *table, const uint8_t *record);
+    int (*has)(const void *in, const struct plain_table *wanted, const uint8_t *record);
+};
+offers_judgement plain_check_records(const uint8_t *bundle, size_t length);
+offers_judgement plain_check_together(const uint8_t *bundle, size_t length, struct plain_searches by, const void *in);
+
 #endif

@@ -1,30 +1,24 @@
-/* The verdict beside plain C of the same rules and beside reading the bytes once: verdicts [RUNS]. */
-#include "bundles.h"
+/* The verdict beside plain C of the same rules, without and with a hash table, beside reading the bytes once and beside the engine's own record
+ * check, which is its verdict on the bundle with its last field broken: verdicts [RUNS]. */
 #include "measure.h"
-#include "validator.h"
+#include "peers.h"
 
 #include <stdio.h>
 #include <stdlib.h>
 #include <string.h>
 
-enum { KIB = 1024, SIZES = 3, RECIPES = 3, DAMAGED = 900 };
+enum { KIB = 1024, SIZES = 3, RECIPES = 6, DAMAGED_RECIPES = 7, DAMAGED = 900 };
 
 static const size_t SIZE_LIST[SIZES] = {64 * KIB, 256 * KIB, 1024 * KIB};
 static struct bundle bundle, broken;
 
 /* ---- the same answers */
 
-static offers_judgement agreed(const struct bundle *b) {
-    offers_judgement engine = offers_verdict(b->bytes, b->length), plain = plain_verdict(b->bytes, b->length);
-    demand(memcmp(&engine, &plain, sizeof engine) == 0, "the verdicts of the engine and of plain C differ");
-    return engine;
-}
-
 static void compare_on_damaged(void) {
-    const struct recipe recipes[4] = {TEXT_HEAVY, CO_HEAVY, AR_HEAVY, MIXED};
+    const struct recipe recipes[DAMAGED_RECIPES] = {TEXT_HEAVY, CO_HEAVY, AR_HEAVY, MIXED, BY_TABLE, OWN_RAILWAYS, MANY_OFFERS};
     unsigned found[OFFERS_LINK_MISSING + 1] = {0};
     for (unsigned k = 0; k < DAMAGED; k++) {
-        if (k % 100 == 0) make_bundle(&bundle, recipes[k / 100 % 4], 6000 + chance(6000));
+        if (k % 100 == 0) make_bundle(&bundle, recipes[k / 100 % DAMAGED_RECIPES], 6000 + chance(6000));
         memcpy(&broken, &bundle, sizeof broken);
         damage(&broken);
         found[agreed(&broken).number]++;
@@ -41,16 +35,6 @@ static void compare_on_damaged(void) {
 
 static volatile uint64_t seen;
 
-static void engine(void *with) {
-    const struct bundle *b = with;
-    seen = offers_verdict(b->bytes, b->length).records;
-}
-
-static void plain(void *with) {
-    const struct bundle *b = with;
-    seen = plain_verdict(b->bytes, b->length).records;
-}
-
 static void read_once(void *with) {
     const struct bundle *b = with;
     uint64_t sum = 0;
@@ -58,18 +42,17 @@ static void read_once(void *with) {
     seen = sum;
 }
 
-static double best(int runs, action *work) { return time_of(runs, calls_for(NULL, work, &bundle), NULL, work, &bundle); }
-
 /* Returns the engine's time. */
 static double compare_at(int runs, struct recipe recipe, size_t size) {
     make_bundle(&bundle, recipe, size);
-    offers_judgement judgement = agreed(&bundle);
-    demand(judgement.number == 0 && judgement.records == bundle.records, "a bundle made to be valid is not");
+    demand(is_sorted(&bundle), "a bundle made in the order of its keys is not");
+    memcpy(&broken, &bundle, sizeof broken);
+    break_last_field(&broken);
     char what[80];
     snprintf(what, sizeof what, "%s, %zu KiB, %zu records", recipe.name, size / KIB, bundle.records);
-    double took = best(runs, engine);
-    tell(what, took, "plain C", best(runs, plain));
-    tell(what, took, "reading once", best(runs, read_once));
+    double took = tell_verdict(runs, what, &bundle);
+    tell(what, took, "reading once", best_time(runs, read_once, &bundle));
+    tell(what, took, "record check", time_of_verdict(runs, offers_verdict, &broken, OFFERS_FIELD_BROKEN));
     return took;
 }
 
@@ -81,7 +64,7 @@ static void compare_recipe(int runs, struct recipe recipe) {
 }
 
 int main(int argc, char **argv) {
-    const struct recipe recipes[RECIPES] = {TEXT_HEAVY, CO_HEAVY, AR_HEAVY};
+    const struct recipe recipes[RECIPES] = {TEXT_HEAVY, CO_HEAVY, AR_HEAVY, BY_TABLE, OWN_RAILWAYS, MANY_OFFERS};
     int runs = argc > 1 ? atoi(argv[1]) : 3;
     tell_heading("The verdict");
     compare_on_damaged();

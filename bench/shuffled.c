@@ -1,0 +1,29 @@
+/* The verdict on records in an order by chance, beside plain C of the same rules, without and with a hash table: shuffled [RUNS]. */
+#include "measure.h"
+#include "peers.h"
+
+#include <stdio.h>
+#include <stdlib.h>
+
+enum { KIB = 1024, SIZES = 2, RECIPES = 6 };
+
+static struct bundle bundle;
+
+static void compare_at(int runs, struct recipe recipe, size_t size) {
+    make_bundle(&bundle, recipe, size);
+    shuffle(&bundle);
+    demand(!is_sorted(&bundle), "a shuffled bundle is sorted");
+    char what[80];
+    snprintf(what, sizeof what, "%s, %zu KiB, %zu records", recipe.name, size / KIB, bundle.records);
+    tell_verdict(runs, what, &bundle);
+}
+
+int main(int argc, char **argv) {
+    const struct recipe recipes[RECIPES] = {TEXT_HEAVY, CO_HEAVY, AR_HEAVY, BY_TABLE, OWN_RAILWAYS, MANY_OFFERS};
+    const size_t sizes[SIZES] = {64 * KIB, 1024 * KIB};
+    int runs = argc > 1 ? atoi(argv[1]) : 3;
+    tell_heading("The verdict, records in an order by chance");
+    for (int k = 0; k < RECIPES; k++)
+        for (int n = 0; n < SIZES; n++) compare_at(runs, recipes[k], sizes[n]);
+    return 0;
+}
