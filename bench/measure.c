@@ -57,13 +57,25 @@ double best_time(int runs, action *work, void *with) {
     return first < others ? first : others;
 }
 
-void tell_heading(const char *title) { printf("\n%s\n%-44s %13s  %-22s %13s %8s\n", title, "", "engine, us", "beside", "its time, us", "ratio"); }
+/* ---- rows */
 
-void tell(const char *what, double engine, const char *other_name, double other) {
+static void heading(const char *title, const char *engine, const char *other) {
+    printf("\n%s\n%-44s %13s  %-22s %13s %8s\n", title, "", engine, "beside", other, "ratio");
+}
+
+void tell_heading(const char *title) { heading(title, "engine, us", "its time, us"); }
+
+void tell_heading_of_bytes(const char *title) { heading(title, "engine, bytes", "its bytes"); }
+
+static void tell_row(const char *what, int decimals, double engine, const char *other_name, double other) {
     double ratio = engine / other;
-    printf("%-44s %13.2f  %-22s %13.2f %8.*f\n", what, engine * 1e6, other_name, other * 1e6, ratio < 0.1 ? 5 : 2, ratio);
+    printf("%-44s %13.*f  %-22s %13.*f %8.*f\n", what, decimals, engine, other_name, decimals, other, ratio < 0.1 ? 5 : 2, ratio);
     fflush(stdout);
 }
+
+void tell(const char *what, double engine, const char *other_name, double other) { tell_row(what, 2, engine * 1e6, other_name, other * 1e6); }
+
+void tell_bytes(const char *what, size_t engine, const char *other_name, size_t other) { tell_row(what, 0, (double)engine, other_name, (double)other); }
 
 void demand(int holds, const char *what) {
     if (holds) return;
