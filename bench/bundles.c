@@ -18,6 +18,7 @@ const struct recipe FOUR_CARDS = {"four cards", 5, 5, 1, 0, 4, 0, 0};
 const struct recipe BY_TABLE = {"by table", 4, 4, 1, 0, 3, 0, 1};
 const struct recipe OWN_RAILWAYS = {"own railways", 4, 4, 4, 0, 3, 1, 1};
 const struct recipe MANY_OFFERS = {"many offers", 1, 1, 0, 0, 1, 0, 1};
+const struct recipe *const TIMED[TIMED_RECIPES] = {&TEXT_HEAVY, &CO_HEAVY, &AR_HEAVY, &BY_TABLE, &OWN_RAILWAYS, &MANY_OFFERS};
 
 /* Fields 5 to 10 of an AR record: discount, whether it is applied together with others, rating, companion, rounding and factor. The first
  * code's are those of every recipe. */

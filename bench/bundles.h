@@ -28,6 +28,10 @@ extern const struct recipe TEXT_HEAVY, CO_HEAVY, AR_HEAVY, MIXED, FOUR_CARDS;
  * many offers with one CO and one AR each. */
 extern const struct recipe BY_TABLE, OWN_RAILWAYS, MANY_OFFERS;
 
+/* Those on which the verdict is timed. */
+enum { TIMED_RECIPES = 6 };
+extern const struct recipe *const TIMED[TIMED_RECIPES];
+
 /* Fills `size` bytes as far as whole records do, by table as far as whole offers do. Offers count from 1, codes too. The bundle is sorted. */
 void make_bundle(struct bundle *b, struct recipe recipe, size_t size);
 

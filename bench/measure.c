@@ -75,7 +75,9 @@ static void tell_row(const char *what, int decimals, double engine, const char *
 
 void tell(const char *what, double engine, const char *other_name, double other) { tell_row(what, 2, engine * 1e6, other_name, other * 1e6); }
 
-void tell_bytes(const char *what, size_t engine, const char *other_name, size_t other) { tell_row(what, 0, (double)engine, other_name, (double)other); }
+void tell_bytes(const char *what, size_t engine, const char *other_name, size_t other) {
+    tell_row(what, 0, (double)engine, other_name, (double)other);
+}
 
 void demand(int holds, const char *what) {
     if (holds) return;

@@ -5,7 +5,8 @@
 #include <string.h>
 
 offers_judgement agreed(const struct bundle *b) {
-    offers_judgement engine = offers_verdict(b->bytes, b->length), plain = plain_verdict(b->bytes, b->length), hashed = hashed_verdict(b->bytes, b->length);
+    offers_judgement engine = offers_verdict(b->bytes, b->length), plain = plain_verdict(b->bytes, b->length);
+    offers_judgement hashed = hashed_verdict(b->bytes, b->length);
     demand(memcmp(&engine, &plain, sizeof engine) == 0, "the verdicts of the engine and of plain C differ");
     demand(memcmp(&engine, &hashed, sizeof engine) == 0, "the verdicts of the engine and of C with a hash table differ");
     return engine;

@@ -5,7 +5,7 @@
 #include <stdio.h>
 #include <stdlib.h>
 
-enum { KIB = 1024, SIZES = 2, RECIPES = 6 };
+enum { KIB = 1024, SIZES = 2 };
 
 static struct bundle bundle;
 
@@ -19,11 +19,10 @@ static void compare_at(int runs, struct recipe recipe, size_t size) {
 }
 
 int main(int argc, char **argv) {
-    const struct recipe recipes[RECIPES] = {TEXT_HEAVY, CO_HEAVY, AR_HEAVY, BY_TABLE, OWN_RAILWAYS, MANY_OFFERS};
     const size_t sizes[SIZES] = {64 * KIB, 1024 * KIB};
     int runs = argc > 1 ? atoi(argv[1]) : 3;
     tell_heading("The verdict, records in an order by chance");
-    for (int k = 0; k < RECIPES; k++)
-        for (int n = 0; n < SIZES; n++) compare_at(runs, recipes[k], sizes[n]);
+    for (int k = 0; k < TIMED_RECIPES; k++)
+        for (int n = 0; n < SIZES; n++) compare_at(runs, *TIMED[k], sizes[n]);
     return 0;
 }

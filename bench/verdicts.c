@@ -7,18 +7,24 @@
 #include <stdlib.h>
 #include <string.h>
 
-enum { KIB = 1024, SIZES = 3, RECIPES = 6, DAMAGED_RECIPES = 7, DAMAGED = 900 };
+enum { KIB = 1024, SIZES = 3, DAMAGED_EACH = 50, DAMAGED = 3 * TIMED_RECIPES * DAMAGED_EACH };
 
 static const size_t SIZE_LIST[SIZES] = {64 * KIB, 256 * KIB, 1024 * KIB};
 static struct bundle bundle, broken;
 
 /* ---- the same answers */
 
+/* Of each recipe small ones as they are made, small ones in an order by chance and larger ones in such an order. */
+static void make_one_to_damage(unsigned k) {
+    unsigned round = k / TIMED_RECIPES;
+    make_bundle(&bundle, *TIMED[k % TIMED_RECIPES], round < 2 ? 6000 + chance(6000) : 100000 + chance(60000));
+    if (round > 0) shuffle(&bundle);
+}
+
 static void compare_on_damaged(void) {
-    const struct recipe recipes[DAMAGED_RECIPES] = {TEXT_HEAVY, CO_HEAVY, AR_HEAVY, MIXED, BY_TABLE, OWN_RAILWAYS, MANY_OFFERS};
     unsigned found[OFFERS_LINK_MISSING + 1] = {0};
     for (unsigned k = 0; k < DAMAGED; k++) {
-        if (k % 100 == 0) make_bundle(&bundle, recipes[k / 100 % DAMAGED_RECIPES], 6000 + chance(6000));
+        if (k % DAMAGED_EACH == 0) make_one_to_damage(k / DAMAGED_EACH);
         memcpy(&broken, &bundle, sizeof broken);
         damage(&broken);
         found[agreed(&broken).number]++;
@@ -64,10 +70,9 @@ static void compare_recipe(int runs, struct recipe recipe) {
 }
 
 int main(int argc, char **argv) {
-    const struct recipe recipes[RECIPES] = {TEXT_HEAVY, CO_HEAVY, AR_HEAVY, BY_TABLE, OWN_RAILWAYS, MANY_OFFERS};
     int runs = argc > 1 ? atoi(argv[1]) : 3;
     tell_heading("The verdict");
     compare_on_damaged();
-    for (int k = 0; k < RECIPES; k++) compare_recipe(runs, recipes[k]);
+    for (int k = 0; k < TIMED_RECIPES; k++) compare_recipe(runs, *TIMED[k]);
     return 0;
 }
