@@ -30,10 +30,16 @@ static uint64_t number_of(const uint8_t *key) {
 
 static unsigned offer_at(unsigned k) { return FIRST_OFFER + k * PLACES; }
 
+static void write_digits(uint8_t *to, int count, unsigned value) {
+    for (int k = count - 1; k >= 0; k--, value /= 10) to[k] = (uint8_t)('0' + value % 10);
+}
+
 static int is_in_few_slots(unsigned offer, unsigned railway, unsigned code) {
-    char key[KEY + 1];
-    snprintf(key, sizeof key, "%05u%04u%03u", offer % 100000, railway % RAILWAYS, code % 1000);
-    return number_of((const uint8_t *)key) % MARKS < SLOTS;
+    uint8_t key[KEY];
+    write_digits(key, 5, offer);
+    write_digits(key + 5, 4, railway);
+    write_digits(key + 9, 3, code);
+    return number_of(key) % MARKS < SLOTS;
 }
 
 /* The keys of an offer are gone through from its last railway and code down; `at` is what is left of them. */
