@@ -1,6 +1,6 @@
 -- Laws of what the verdict keeps in mind: that a number told to be new is no earlier record's, and that every hint stays a place of a record.
 -- Assumes nothing.
-use Prim.Native.Nat.{ℕ, zero, suc, _+_, _%_, _≤_, _<_}
+use Prim.Native.Nat.{ℕ, zero, suc, _+_, _*_, _%_, _≤_, _<_}
 use mathlib.Core.Path.{_≡_, refl, sym, _∙_, ap}
 use mathlib.Core.Bool.{Bool, true, false, cond, not, _&&_, _||_, and-false}
 use mathlib.Core.Logic.{_⊎_, inl, inr, ⊎-elim}
@@ -22,7 +22,7 @@ use Rattle.bundle.specs.Records.{Rec, rec, noRec, ifWhole, between, reco
 use Rattle.bundle.specs.Keys.{clash}
 use Rattle.bundle.specs.Links.{serves}
 use Rattle.bundle.specs.Helpers.{stepAt, placesOf}
-use Rattle.bundle.specs.ShortCuts.{InTops, printOf, excludes, marked, InMarks, Seen, Tells, IsPlace, Hinted, servesAt}
+use Rattle.bundle.specs.ShortCuts.{InTops, printOf, excludes, marked, InMarks, Seen, Tells, IsPlace, placeIn, Hinted, KeepsHints, servesAt}
 use Rattle.bundle.specs.declared.links.Link.{Link}
 use Rattle.bundle.specs.declared.walk.Step.{Step}
 use Rattle.bundle.specs.declared.walk.Step.the-variants.{Unknown, Short, Whole}
@@ -142,9 +142,11 @@ start-is-place s = (length (placesOf s), List·getD-eq-default (placesOf s) 0 {n
 pub no-hints-yet : (s : List ℕ) (n : ℕ) → Hinted s (replicate n 0)
 no-hints-yet s n k = rw (getD-zeros n k) (start-is-place s)
 
--- and a hint that is put to a place keeps the others.
-pub put-hint : (s hints : List ℕ) (k p : ℕ) → IsPlace s p → Hinted s hints → Hinted s (set hints k p)
-put-hint s hints k p h f j = ⊎-elim (λ e. rw (e .1) h) (λ e. rw e (f j)) (after-store hints k j p)
+-- and a hint that is put keeps the others.
+pub hint-put : (hints : List ℕ) (k p tag : ℕ) → p < 2097152 → KeepsHints p hints (set hints k (tag * 2097152 + p))
+hint-put hints k p tag l s h f j =
+    let e : placeIn (tag * 2097152 + p) ≡ p = omega arith in
+    ⊎-elim (λ q. rw (q .1, e) h) (λ q. rw q (f j)) (after-store hints k j (tag * 2097152 + p))
 
 -- WHETHER A RECORD SERVES AT A PLACE, by the step that was made there;
 module _ (s : List ℕ) (l : Link) (r : Rec) (p : ℕ) where

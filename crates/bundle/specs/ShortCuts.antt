@@ -44,20 +44,23 @@ Tells before after t n isNew = (isNew ≡ true → before t n → ⊥) × after 
 abbrev pub IsPlace : List ℕ → ℕ → Type 0
 IsPlace s p = (i : ℕ) × (getD (placesOf s) i 0 ≡ p)
 
--- every hint is a place
+-- a hint is such a place, and above it a tag of the number that the record is looked for by
+abbrev pub placeIn : ℕ → ℕ
+placeIn hint = hint % 2097152
+
 abbrev pub Hinted : List ℕ → List ℕ → Type 0
-Hinted s hints = (k : ℕ) → IsPlace s (getD hints k 0)
+Hinted s hints = (k : ℕ) → IsPlace s (placeIn (getD hints k 0))
 
 -- a change of hints that a place may be among
 abbrev pub KeepsHints : ℕ → List ℕ → List ℕ → Type 0
 KeepsHints p before after = (s : List ℕ) → IsPlace s p → Hinted s before → Hinted s after
 
--- where the hint for a table and a name stands among n hints; a name is a code, or an offer
-unfoldable pub slotOf : ℕ → ℕ → List ℕ → ℕ
-slotOf n t name = cond (eqb n 0) 0 ((rankOf name + t * tableStep) % n)
-
+-- a record is looked for by its code, or by its offer; one number for the table that is wanted and that
 unfoldable pub nameOf : Bool → ℕ → List ℕ → List ℕ
 nameOf coded t body = cond coded (codeOf t body) (offerOf body)
+
+unfoldable pub hintNumber : ℕ → Bool → ℕ → List ℕ → ℕ
+hintNumber wants coded t body = rankOf (nameOf coded t body) + wants * tableStep
 
 -- the record at a place serves
 unfoldable pub servesAt : List ℕ → Link → Rec → ℕ → Bool

@@ -148,27 +148,27 @@ fn served_around<'a>(bundle: &'a [u8], link: Link, table: u32, r: &'a [u8], last
 }
 
 // Whether some record of the bundle is one that a record of a table wants by link k. It is looked for first where a hint says.
-fn is_served<'a>(bundle: &'a [u8], hints: &mut [usize], table: u32, r: &'a [u8], k: usize) -> bool
+fn is_served<'a>(bundle: &'a [u8], hints: &mut [u32], table: u32, r: &'a [u8], k: usize) -> bool
     requires { ⌜ Hinted (now bundle) (now hints) ⌝ }
     ensures { λ b. ⌜ (b ≡ any (serves (getD linkRows k noLink) (rec table (now (r .entry)))) (recordsOf (now (bundle .entry)))) × Hinted (now (bundle .entry)) (now (hints .exit)) ⌝ }
 {
     let link = link_at(k);
-    let name = super::hints::name(link.join == BY_CODE, table, r);
-    let slot = super::hints::slot_of(hints.len(), link.wants, name);
-    if serves_at(bundle, link, table, r, super::hints::hint_at(hints, slot)) {
+    let number = super::hints::number(link.wants, link.join == BY_CODE, table, r);
+    let slot = super::hints::slot_of(hints, number);
+    if serves_at(bundle, link, table, r, super::hints::place_at(hints, slot)) {
         return true;
     }
-    let place = served_around(bundle, link, table, r, super::hints::hint_at(hints, k));
+    let place = served_around(bundle, link, table, r, super::hints::place_at(hints, k));
     if bundle.len() <= place {
         return false;
     }
-    super::hints::put(hints, slot, place);
-    super::hints::put(hints, k, place);
+    super::hints::put(hints, slot, number, place);
+    super::hints::put(hints, k, number, place);
     true
 }
 
 // Whether a record of a table wants link k, and none of the bundle serves.
-fn lacks_link<'a>(bundle: &'a [u8], hints: &mut [usize], table: u32, r: &'a [u8], k: usize) -> bool
+fn lacks_link<'a>(bundle: &'a [u8], hints: &mut [u32], table: u32, r: &'a [u8], k: usize) -> bool
     requires { ⌜ Hinted (now bundle) (now hints) ⌝ }
     ensures { λ b. ⌜ (b ≡ lacks (recordsOf (now (bundle .entry))) (rec table (now (r .entry))) k) × Hinted (now (bundle .entry)) (now (hints .exit)) ⌝ }
 {
@@ -179,7 +179,7 @@ fn lacks_link<'a>(bundle: &'a [u8], hints: &mut [usize], table: u32, r: &'a [u8]
 }
 
 // The first link that a record of a table lacks, LINKS where it lacks none.
-pub fn missing_link<'a>(bundle: &'a [u8], hints: &mut [usize], table: u32, r: &'a [u8]) -> usize
+pub fn missing_link<'a>(bundle: &'a [u8], hints: &mut [u32], table: u32, r: &'a [u8]) -> usize
     requires { ⌜ Hinted (now bundle) (now hints) ⌝ }
     ensures { λ k. ⌜ (k ≡ missingLink (recordsOf (now (bundle .entry))) (rec table (now (r .entry)))) × Hinted (now (bundle .entry)) (now (hints .exit)) ⌝ }
 {

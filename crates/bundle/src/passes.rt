@@ -9,7 +9,7 @@ use super::Judgement;
 use super::walk::Step;
 
 // Each record by itself: 2, then 3, then 4.
-pub fn first_pass(bundle: &[u8], hints: &mut [usize]) -> Judgement
+pub fn first_pass(bundle: &[u8], hints: &mut [u32]) -> Judgement
     requires { ⌜ Hinted (now bundle) (now hints) ⌝ }
     ensures { λ r. ⌜ (r ≡ judged (firstFault (firstPass (now (bundle .entry)))) (length (recordsOf (now (bundle .entry))))) × Hinted (now (bundle .entry)) (now (hints .exit)) ⌝ }
 {
@@ -47,7 +47,7 @@ pub fn first_pass(bundle: &[u8], hints: &mut [usize]) -> Judgement
 const TABLES: usize = 4;
 
 // Each record beside the others: 5, then 6, then 7, before the next record.
-pub fn second_pass(bundle: &[u8], marks: &mut [u8], hints: &mut [usize]) -> Judgement
+pub fn second_pass(bundle: &[u8], marks: &mut [u8], hints: &mut [u32]) -> Judgement
     requires { ⌜ Hinted (now bundle) (now hints) ⌝ }
     ensures { λ r. ⌜ r ≡ judged (firstFault (secondPass (recordsOf (now (bundle .entry))))) (length (recordsOf (now (bundle .entry)))) ⌝ }
 {

@@ -30,7 +30,7 @@ fn with_little(bundle: &[u8]) -> Judgement
     ensures { λ r. ⌜ r ≡ verdictOf (now (bundle .entry)) ⌝ }
 {
     let mut marks = [0u8; 256];
-    let mut hints = [0usize; 64];
+    let mut hints = [0u32; 128];
     in_passes(bundle, &mut marks, &mut hints)
 }
 
@@ -39,7 +39,7 @@ fn with_some(bundle: &[u8]) -> Judgement
     ensures { λ r. ⌜ r ≡ verdictOf (now (bundle .entry)) ⌝ }
 {
     let mut marks = [0u8; 4096];
-    let mut hints = [0usize; 512];
+    let mut hints = [0u32; 2048];
     in_passes(bundle, &mut marks, &mut hints)
 }
 
@@ -48,11 +48,11 @@ fn with_much(bundle: &[u8]) -> Judgement
     ensures { λ r. ⌜ r ≡ verdictOf (now (bundle .entry)) ⌝ }
 {
     let mut marks = [0u8; 65536];
-    let mut hints = [0usize; 4096];
+    let mut hints = [0u32; 12288];
     in_passes(bundle, &mut marks, &mut hints)
 }
 
-fn in_passes(bundle: &[u8], marks: &mut [u8], hints: &mut [usize]) -> Judgement
+fn in_passes(bundle: &[u8], marks: &mut [u8], hints: &mut [u32]) -> Judgement
     requires { ⌜ (length (now bundle) ≤ limit) × Hinted (now bundle) (now hints) ⌝ }
     ensures { λ r. ⌜ r ≡ verdictOf (now (bundle .entry)) ⌝ }
 {

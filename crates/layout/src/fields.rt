@@ -96,7 +96,7 @@ fn key_length(table: u32) -> usize
 }
 
 // What tells the numbers of one table from those of another.
-const TABLE_STEP: u64 = 1000003;
+pub const TABLE_STEP: u64 = 1000003;
 
 // Whether two records of a table have the same key. Its fields stand one behind the other, so that they are compared at once.
 pub fn same_key<'a>(table: u32, a: &'a [u8], b: &'a [u8]) -> bool

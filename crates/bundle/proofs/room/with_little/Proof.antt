@@ -6,4 +6,4 @@ use Rattle.bundle.proofs.room.with_little.Statement.{statement}
 use Rattle.bundle.proofs.room.with_little.Tie as tie
 
 pub with-little-spec : {M : Type 1} → statement M
-with-little-spec = tie.close (tie.spec (λ c. search needs) (λ c. search needs) (λ c κs. (c .before .before .before .pre, no-hints-yet _ 64)) (λ c. c .before .before .in-passes .ensures))
+with-little-spec = tie.close (tie.spec (λ c. search needs) (λ c. search needs) (λ c κs. (c .before .before .before .pre, no-hints-yet _ 128)) (λ c. c .before .before .in-passes .ensures))
