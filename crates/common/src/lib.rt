@@ -3,8 +3,9 @@ ghost use mathlib.Core.Path.{_≡_};
 ghost use mathlib.Core.Bool.{_&&_};
 ghost use Prim.Native.Nat.{_+_, _-_, _≤_, _<_};
 ghost use lib.ListN.{length, take, drop};
+ghost use lib.Dec.{leb};
 ghost use Rattle.common.specs.Lists.{same, byteAt};
-ghost use Rattle.common.specs.Digits.{numberOf, valueOf, isWithin};
+ghost use Rattle.common.specs.Digits.{digit-0, isDigit, numberOf, valueOf, isWithin};
 ghost use Rattle.common.specs.Ranks.{rankOf, rankLimit};
 ghost use Rattle.common.specs.Checks.{refuse};
 ghost use Rattle.common.specs.Helpers.{fourBytes, fourAt};
@@ -132,6 +133,13 @@ pub fn rank(s: &[u8]) -> u64
     v
 }
 
+// What a byte says as a digit, above 9 where it is none: below the digits the difference wraps, so that one comparison tells.
+fn digit(b: u8) -> u32
+    ensures { λ r. ⌜ (leb r 9 ≡ isDigit b) × (r ≤ 9 → r ≡ b - digit-0) ⌝ }
+{
+    std::num::wrapping_sub_u32(b as u32, 48)
+}
+
 // The number that one to nine digits say.
 pub fn number(s: &[u8]) -> Num
     ensures { λ r. ⌜ r ≡ numberOf (now (s .entry)) ⌝ }
@@ -142,14 +150,10 @@ pub fn number(s: &[u8]) -> Num
     let mut v: u32 = 0;
     let mut i = 0;
     while i < s.len() {
-        let b = s[i];
-        if b < b'0' {
+        let d = digit(s[i]);
+        if 9 < d {
             return Num::Not;
         }
-        if b'9' < b {
-            return Num::Not;
-        }
-        let d = (b - b'0') as u32;
         v = v * 10 + d;
         i += 1;
     }

@@ -144,8 +144,9 @@ pub fn first_day(s: &[u8]) -> bool
 pub fn last_day<'a>(first: &'a [u8], s: &'a [u8]) -> bool
     ensures { λ r. ⌜ r ≡ lastDayRule (now (first .entry)) (now (s .entry)) ⌝ }
 {
-    if !first_day(s) {
+    let last = common::value(common::number(s));
+    if !super::dates::is_day(last) {
         return false;
     }
-    common::value(common::number(first)) <= common::value(common::number(s))
+    common::value(common::number(first)) <= last
 }
