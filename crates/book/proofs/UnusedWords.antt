@@ -2,19 +2,22 @@
 -- Assumes nothing.
 use Prim.Native.Nat.{ℕ, _+_, _-_, _≤_, _<_}
 use mathlib.Core.Path.{_≡_, refl, sym, _∙_, subst}
-use mathlib.Core.Bool.{Bool, true, false}
+use mathlib.Core.Bool.{Bool, true, false, _&&_, and-true, and-false}
 use mathlib.Core.List.{List}
 use mathlib.Core.Logic.{⊎-elim}
 use native.Mathlib.Omega.{arith}
 use lib.ListN.{length, getD, take, drop, length-take, length-drop}
 use lib.Seq.{ext-getD, getD-take, getD-drop}
 use borrow.Author.Tests.{eqb-true, eq-eqb}
-use Rattle.common.specs.Lists.{every, same, upTo}
-use Rattle.common.proofs.Lists.{every-at, every-by, zero-at, is-same, same-is, upto-length, upto-at}
+use Rattle.common.specs.Lists.{every, same, firstOf, upTo}
+use Rattle.common.proofs.Lists.{every-at, every-by, zero-at, is-same, same-is, first-length, first-at, upto-length, upto-at}
 use Rattle.common.proofs.Tests.{side, never, both-true, refuted}
+use Rattle.fares.specs.Question.{noLeg, legInLimits, legsOf, cardSlots, cardsInLimits, cardsDiffer}
+use Rattle.fares.specs.Helpers.{tripInLimits}
 use Rattle.fares.specs.declared.Question.{Question}
-use Rattle.book.specs.Words.{morePairsAt, morePairsWidth, railwayAt, fareAt, thirdAt, fourthAt, questionWidth, questionOf, questionWords, askedAt}
-use Rattle.book.specs.Sound.{isZero}
+use Rattle.fares.proofs.QuestionLimits.{limits-apart}
+use Rattle.book.specs.Words.{morePairsAt, morePairsWidth, railwayAt, fareAt, thirdAt, fourthAt, questionWidth, legOf, questionOf, questionWords, askedAt}
+use Rattle.book.specs.Sound.{isZero, askedSound}
 use Rattle.book.specs.Meaning.{Used, till, sequence, offer, day, persons, card, count, railway, fare, part, status}
 use Rattle.book.specs.Helpers.{legClear, legsClear, unusedZero}
 use Rattle.book.proofs.QuestionPlaces.{Unused, all-places, words-unused, places, used-again}
@@ -101,7 +104,7 @@ module _ (ws : List ℕ) (long : length ws ≡ questionWidth) (few : questionOf 
       let by-use : Used (q .count) (askedAt + r) → getD ws r 0 ≡ getD (questionWords q) r 0 = λ u. sym (used-again ws few r l u) in
       ⊎-elim by-use (λ y. ⊎-elim by-use (λ x. y ∙ sym x) (places q r l)) (all-places ws (q .count) z r l)
 
-  pub same-if-unused : same ws (questionWords q) ≡ unusedZero ws (q .count)
+  same-if-unused : same ws (questionWords q) ≡ unusedZero ws (q .count)
   same-if-unused = go (unusedZero ws (q .count)) refl
     where
       go : (b : Bool) → unusedZero ws (q .count) ≡ b → same ws (questionWords q) ≡ b
@@ -111,3 +114,28 @@ module _ (ws : List ℕ) (long : length ws ≡ questionWidth) (few : questionOf 
       go false e =
           refuted (same ws (questionWords q))
           (λ s. never (is-found ws (q .count) long few (subst (λ x. Unused x (q .count)) (sym (same-is ws (questionWords q) s)) (words-unused q))) e)
+
+  -- the legs that are asked for, where their words stand
+  legs-asked : legsOf q ≡ upTo (legOf ws) (q .count)
+  unfolding questionOf
+  legs-asked =
+      let n = q .count in
+      let m = first-length noLeg n (upTo (legOf ws) 8) in
+      ext-getD noLeg (firstOf noLeg n (upTo (legOf ws) 8)) (upTo (legOf ws) n) (m ∙ sym (upto-length (legOf ws) n))
+      (λ k l. let h : k < n = omega (arith, m) in
+      first-at noLeg n (upTo (legOf ws) 8) k h ∙ (upto-at (legOf ws) 8 k noLeg (omega (arith, few)) ∙ sym (upto-at (legOf ws) n k noLeg h)))
+
+  -- SOUND WORDS test by test: what is asked for besides cards and legs, the cards, that they differ, what is not used, the legs
+  pub sound-apart : askedSound ws ≡ (tripInLimits (q .offer) (q .day) (q .persons) (q .count)
+      && (cardsInLimits (cardSlots q) && (cardsDiffer (cardSlots q) && (unusedZero ws (q .count) && every legInLimits (upTo (legOf ws) (q .count))))))
+  sound-apart =
+      rw (same-if-unused, limits-apart q, legs-asked)
+      (go (tripInLimits (q .offer) (q .day) (q .persons) (q .count)) (cardsInLimits (cardSlots q)) (every legInLimits (upTo (legOf ws) (q .count)))
+      (cardsDiffer (cardSlots q)) (unusedZero ws (q .count)))
+    where
+      go : (trip cards legs differ unused : Bool)
+          → ((trip && (cards && legs)) && (differ && unused)) ≡ (trip && (cards && (differ && (unused && legs))))
+      go false cards legs differ unused = refl
+      go true false legs differ unused = refl
+      go true true true differ unused = rw (and-true unused) refl
+      go true true false differ unused = rw (and-false unused, and-false differ) refl

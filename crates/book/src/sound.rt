@@ -4,21 +4,25 @@ ghost use Prim.Native.Nat.{_+_, _*_, _≤_, _<_};
 ghost use lib.ListN.{length};
 ghost use mathlib.Core.Bool.{true};
 ghost use Rattle.common.specs.Lists.{every, upTo};
-ghost use Rattle.book.specs.Words.{capacity, startOf, width, questionWidth, questionOf, entryOf, entryAt};
+ghost use Rattle.fares.specs.Question.{legInLimits};
+ghost use Rattle.book.specs.Words.{capacity, startOf, width, questionWidth, legOf, questionOf, entryOf, entryAt};
 ghost use Rattle.book.specs.Sound.{numberInLimits, askedSound, isBounded, entrySound, soundWords};
 use super::words::ASKED;
 use super::words::CAPACITY;
+use super::words::COUNT;
+use super::words::DAY;
 use super::words::ENTRIES;
 use super::words::ENTRY_COUNT;
 use super::words::LEG_COUNT;
 use super::words::LENGTH;
+use super::words::OFFER;
 use super::words::PARTS;
+use super::words::PERSONS;
 use super::words::SEQUENCE;
 use super::words::SPARE;
 use super::words::STATUS;
 use super::words::TILL;
 use super::words::WIDTH;
-use fares::Question;
 
 // Whether a sale number is within its limits.
 pub fn is_number(till: u32, sequence: u64) -> bool
@@ -36,36 +40,53 @@ pub fn is_number(till: u32, sequence: u64) -> bool
     sequence <= 4294967295
 }
 
+// No early way out, as in `layout::rules::text`.
 fn all_bounded(parts: &[u32], bound: u32) -> bool
     ensures { λ r. ⌜ r ≡ isBounded bound (now (parts .entry)) ⌝ }
 {
+    let mut good = true;
     let mut k = 0;
     while k < parts.len() {
-        if bound < parts[k] {
+        good = common::both(good, parts[k] <= bound);
+        k += 1;
+    }
+    good
+}
+
+// Whether the first legs that words say are within their limits.
+fn legs_in_limits(words: &[u32], count: usize) -> bool
+    requires { ⌜ (length (now words) ≡ questionWidth) × (count ≤ 8) ⌝ }
+    ensures { λ r. ⌜ r ≡ every legInLimits (upTo (legOf (now (words .entry))) count) ⌝ }
+{
+    let mut j = 0;
+    while j < count {
+        if !fares::limits::leg_in_limits(super::words::leg_in(words, j)) {
             return false;
         }
-        k += 1;
+        j += 1;
     }
     true
 }
 
-// Whether words are sound, given the question that they say.
-fn asked_sound(words: &[u32], q: Question) -> bool
-    requires { ⌜ (length (now words) ≡ questionWidth) × (q ≡ questionOf (now words)) ⌝ }
+// Whether words are sound, given the cards that they say. They are looked at where they stand: a question made of them would have to be written first.
+fn asked_sound(words: &[u32], cards: [u32; 4]) -> bool
+    requires { ⌜ (length (now words) ≡ questionWidth) × (cards ≡ questionOf (now words) .cards) ⌝ }
     ensures { λ r. ⌜ r ≡ askedSound (now (words .entry)) ⌝ }
 {
-    let count = q.count as usize;
-    if 8 < count {
+    let count = words[COUNT];
+    if !fares::limits::trip_in_limits(words[OFFER], words[DAY], words[PERSONS], count) {
         return false;
     }
-    // the words first: a processor reads a question faster that was not written just before
-    if !super::words::unused_zero(words, count) {
+    if !fares::limits::cards_in_limits(cards) {
         return false;
     }
-    if !fares::limits::in_limits(q) {
+    if !fares::limits::cards_differ(cards) {
         return false;
     }
-    fares::limits::cards_differ(q)
+    if !super::words::unused_zero(words, count as usize) {
+        return false;
+    }
+    legs_in_limits(words, count as usize)
 }
 
 // Whether the words of an entry are sound.
@@ -76,11 +97,11 @@ fn entry_sound(words: &[u32]) -> bool
     if !is_number(words[TILL], words[SEQUENCE] as u64) {
         return false;
     }
-    let q = super::words::question_in(&words[ASKED..PARTS]);
-    if !asked_sound(&words[ASKED..PARTS], q) {
+    let cards = super::words::cards_in(&words[ASKED..PARTS]);
+    if !asked_sound(&words[ASKED..PARTS], cards) {
         return false;
     }
-    if !all_bounded(&words[PARTS..STATUS], fares::limits::part_bound(q)) {
+    if !all_bounded(&words[PARTS..STATUS], fares::limits::part_bound(cards)) {
         return false;
     }
     let first = PARTS + (words[LEG_COUNT] as usize);

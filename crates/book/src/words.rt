@@ -10,19 +10,19 @@ use fares::Leg;
 use fares::Question;
 
 // A question: offer, day, four cards, the leg count, six pairs of a category and its persons, and eight legs of four words.
-const OFFER: usize = 0;
+pub const OFFER: usize = 0;
 
-const DAY: usize = 1;
+pub const DAY: usize = 1;
 
 const CARDS: usize = 2;
 
 const CARDS_WIDTH: usize = 4;
 
-const COUNT: usize = CARDS + CARDS_WIDTH;
+pub const COUNT: usize = CARDS + CARDS_WIDTH;
 
 const PAIRS: usize = COUNT + 1;
 
-const PERSONS: usize = PAIRS + 1;
+pub const PERSONS: usize = PAIRS + 1;
 
 const MORE_PAIRS: usize = PERSONS + 1;
 
@@ -103,7 +103,8 @@ pub fn question_words(q: Question) -> [u32; QUESTION_WIDTH]
     words
 }
 
-fn leg_in(words: &[u32], j: usize) -> Leg
+// Leg j that a question's words say.
+pub fn leg_in(words: &[u32], j: usize) -> Leg
     requires { ⌜ (length (now words) ≡ questionWidth) × (j < 8) ⌝ }
     ensures { λ r. ⌜ r ≡ legOf (now (words .entry)) j ⌝ }
 {
@@ -114,33 +115,17 @@ fn leg_in(words: &[u32], j: usize) -> Leg
     }
 }
 
-// The question that words say.
-pub fn question_in(words: &[u32]) -> Question
+// The cards that a question's words say.
+pub fn cards_in(words: &[u32]) -> [u32; 4]
     requires { ⌜ length (now words) ≡ questionWidth ⌝ }
-    ensures { λ r. ⌜ r ≡ questionOf (now (words .entry)) ⌝ }
+    ensures { λ r. ⌜ r ≡ questionOf (now (words .entry)) .cards ⌝ }
 {
-    Question {
-        offer: words[OFFER],
-        day: words[DAY],
-        persons: words[PERSONS],
-        cards: [
-            words[CARDS],
-            words[CARDS + 1],
-            words[CARDS + 2],
-            words[CARDS + 3],
-        ],
-        count: words[COUNT],
-        legs: [
-            leg_in(words, 0),
-            leg_in(words, 1),
-            leg_in(words, 2),
-            leg_in(words, 3),
-            leg_in(words, 4),
-            leg_in(words, 5),
-            leg_in(words, 6),
-            leg_in(words, 7),
-        ],
-    }
+    [
+        words[CARDS],
+        words[CARDS + 1],
+        words[CARDS + 2],
+        words[CARDS + 3],
+    ]
 }
 
 // Whether words are those of a question: as many are alike as there are, which a processor counts several at a time.

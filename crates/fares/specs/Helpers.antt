@@ -2,16 +2,18 @@
 -- has to be believed: no promise and no answer of a call is stated with it.
 -- Assumes nothing.
 use Prim.Native.Nat.{ℕ, _-_}
-use mathlib.Core.Bool.{Bool}
+use mathlib.Core.Bool.{Bool, _&&_}
 use mathlib.Core.List.{List, _++_, map}
 use lib.Dec.{leb}
 use lib.ListN.{length, take, getD, replicate}
 use Rattle.common.specs.Lists.{only}
 use Rattle.common.specs.Checks.{Finding, unless, firstFault}
+use Rattle.layout.specs.Dates.{isDay}
 use Rattle.layout.specs.declared.fields.Grant.{Grant}
 use Rattle.bundle.specs.Records.{Rec, recordsOf}
 use Rattle.bundle.specs.Helpers.{placesOf, bodyAt, atPlace}
 use Rattle.bundle.specs.declared.choice.Choice.{Choice}
+use Rattle.fares.specs.Question.{between}
 use Rattle.fares.specs.Reductions.{cardGrants, reduceBy}
 use Rattle.fares.specs.Cards.{isAlone, rankOf}
 use Rattle.fares.specs.Legs.{conditionsFor, bodyOf, appliedFor, conditionChecks, legChecks, partBy, partOf}
@@ -25,6 +27,10 @@ use Rattle.fares.specs.declared.records.Cards.{Cards}
 use Rattle.fares.specs.declared.records.LegRecords.{LegRecords}
 use Rattle.fares.specs.declared.cards.Step.{Step}
 use Rattle.fares.specs.declared.cards.Row.{Row}
+
+-- the limits of what a question says besides its cards and legs
+unfoldable pub tripInLimits : ℕ → ℕ → ℕ → ℕ → Bool
+tripInLimits offer day persons count = between 1 99999 offer && (isDay day && (between 1 99 persons && between 1 8 count))
 
 -- four places, those behind a list the same
 abbrev pub padded : {A : Type 0} → A → List A → List A

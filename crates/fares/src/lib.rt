@@ -61,7 +61,8 @@ fn price(bundle: &[u8], q: Question) -> Quote
     if !limits::in_limits(q) {
         return refused(common::refuse(11, 0, 0));
     }
-    if !limits::cards_differ(q) {
+    let cards = q.cards;
+    if !limits::cards_differ(cards) {
         return refused(common::refuse(17, 0, 0));
     }
     let legs = q.legs;

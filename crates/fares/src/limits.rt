@@ -3,8 +3,9 @@ ghost use mathlib.Core.Path.{_≡_};
 ghost use Prim.Native.Nat.{_≤_};
 ghost use lib.Dec.{eqb};
 ghost use lib.ListN.{length, drop};
-ghost use Rattle.common.specs.Lists.{every, any, firstOf};
-ghost use Rattle.fares.specs.Question.{between, noLeg, legInLimits, cardSlots, cardsOf, cardsInLimits, cardsDiffer, inLimits};
+ghost use Rattle.common.specs.Lists.{every, any, only, firstOf};
+ghost use Rattle.fares.specs.Question.{between, noLeg, legInLimits, isGiven, cardsInLimits, cardsDiffer, inLimits};
+ghost use Rattle.fares.specs.Helpers.{tripInLimits};
 ghost use Rattle.fares.specs.Reductions.{partBound};
 use super::Leg;
 use super::Question;
@@ -18,7 +19,7 @@ fn is_between(v: u32, lowest: u32, highest: u32) -> bool
     v <= highest
 }
 
-fn leg_in_limits(leg: Leg) -> bool
+pub fn leg_in_limits(leg: Leg) -> bool
     ensures { λ r. ⌜ r ≡ legInLimits leg ⌝ }
 {
     if !layout::company::is_railway(leg.railway) {
@@ -70,7 +71,7 @@ fn none_from(cards: [u32; 4], first: usize) -> bool
     true
 }
 
-fn cards_in_limits(cards: [u32; 4]) -> bool
+pub fn cards_in_limits(cards: [u32; 4]) -> bool
     ensures { λ r. ⌜ r ≡ cardsInLimits (firstOf 0 4 cards) ⌝ }
 {
     if one_at_most(cards) {
@@ -90,23 +91,30 @@ fn cards_in_limits(cards: [u32; 4]) -> bool
     true
 }
 
+// Whether what a question says besides its cards and legs is within its limits.
+pub fn trip_in_limits(offer: u32, day: u32, persons: u32, count: u32) -> bool
+    ensures { λ r. ⌜ r ≡ tripInLimits offer day persons count ⌝ }
+{
+    if !is_between(offer, 1, 99999) {
+        return false;
+    }
+    if !layout::dates::is_day(day) {
+        return false;
+    }
+    if !is_between(persons, 1, 99) {
+        return false;
+    }
+    is_between(count, 1, 8)
+}
+
 pub fn in_limits(q: Question) -> bool
     ensures { λ r. ⌜ r ≡ inLimits q ⌝ }
 {
-    if !is_between(q.offer, 1, 99999) {
-        return false;
-    }
-    if !layout::dates::is_day(q.day) {
-        return false;
-    }
-    if !is_between(q.persons, 1, 99) {
+    if !trip_in_limits(q.offer, q.day, q.persons, q.count) {
         return false;
     }
     let cards = q.cards;
     if !cards_in_limits(cards) {
-        return false;
-    }
-    if !is_between(q.count, 1, 8) {
         return false;
     }
     let legs = q.legs;
@@ -129,10 +137,9 @@ fn stands_from(cards: [u32; 4], card: u32, first: usize) -> bool
 }
 
 // Whether no card is given twice.
-pub fn cards_differ(q: Question) -> bool
-    ensures { λ r. ⌜ r ≡ cardsDiffer (cardSlots q) ⌝ }
+pub fn cards_differ(cards: [u32; 4]) -> bool
+    ensures { λ r. ⌜ r ≡ cardsDiffer (firstOf 0 4 cards) ⌝ }
 {
-    let cards = q.cards;
     if one_at_most(cards) {
         return true;
     }
@@ -149,10 +156,9 @@ pub fn cards_differ(q: Question) -> bool
     true
 }
 
-fn card_count(q: Question) -> u32
-    ensures { λ r. ⌜ r ≡ length (cardsOf q) ⌝ }
+fn card_count(cards: [u32; 4]) -> u32
+    ensures { λ r. ⌜ r ≡ length (only isGiven (firstOf 0 4 cards)) ⌝ }
 {
-    let cards = q.cards;
     let mut count = 0;
     let mut k = 0;
     while k < 4 {
@@ -164,13 +170,12 @@ fn card_count(q: Question) -> u32
     count
 }
 
-// No part of a question is above this.
-pub fn part_bound(q: Question) -> u32
-    ensures { λ r. ⌜ r ≡ partBound (length (cardsOf q)) ⌝ }
+// No part of a question with such cards is above this.
+pub fn part_bound(cards: [u32; 4]) -> u32
+    ensures { λ r. ⌜ r ≡ partBound (length (only isGiven (firstOf 0 4 cards))) ⌝ }
 {
-    let cards = q.cards;
     if one_at_most(cards) {
         return 99 * (999999 + 998 * 2);
     }
-    99 * (999999 + 998 * (1 + card_count(q)))
+    99 * (999999 + 998 * (1 + card_count(cards)))
 }

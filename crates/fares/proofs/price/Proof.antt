@@ -23,15 +23,15 @@ abbrev μ-loop : tie.MeasureT-loop
 limits : (c : tie.Else1 Inv-loop μ-loop) → inLimits (c .before .before .before .args .q) ≡ true
 limits c = holds (c .before .in-limits .result) (c .if1 .left) (c .before .in-limits .ensures)
 
-differ : (c : tie.Else2 Inv-loop μ-loop) → cardsDiffer (cardSlots (c .before .before .before .before .before .args .q)) ≡ true
+differ : (c : tie.Else2 Inv-loop μ-loop) → cardsDiffer (cardSlots (c .before .before .before .before .before .before .args .q)) ≡ true
 differ c = holds (c .before .cards-differ .result) (c .if2 .left) (c .before .cards-differ .ensures)
 
 -- what the limits and the cards say at the loop
 abbrev entry : (l : tie.At-loop Inv-loop μ-loop) → tie.Start Inv-loop μ-loop
-entry l = l .before .before .before .before .before .before .before .before
+entry l = l .before .before .before .before .before .before .before .before .before
 
 known : (l : tie.At-loop Inv-loop μ-loop) → inLimits (entry l .args .q) ≡ true
-known l = limits (l .before .before .before .before .before)
+known l = limits (l .before .before .before .before .before .before)
 
 other : (l : tie.At-loop Inv-loop μ-loop) → cardsDiffer (cardSlots (entry l .args .q)) ≡ true
 other l = differ (l .before .before .before)
@@ -63,7 +63,7 @@ returns-2 : tie.Need-returns-2 Inv-loop μ-loop
 returns-2 c =
     let d = c .before .before in
     c .refused2 .ensures
-    ∙ cards-fail _ _ (limits (d .before .before)) (fails (d .before .cards-differ .result) (d .if2 .taken) (d .before .cards-differ .ensures)) (c .before .refuse2 .ensures)
+    ∙ cards-fail _ _ (limits (d .before .before .before)) (fails (d .before .cards-differ .result) (d .if2 .taken) (d .before .cards-differ .ensures)) (c .before .refuse2 .ensures)
 
 returns-3 : tie.Need-returns-3 Inv-loop μ-loop
 returns-3 c =
@@ -83,7 +83,7 @@ price-spec =
     tie.close (tie.spec
     Inv-loop μ-loop (λ c κs. search needs) (λ c κs. search needs) (λ c κs. search needs) returns
     (λ c κs. search needs) (λ c κs. search needs) (λ c κs. search needs) returns-2 (λ c. search needs)
-    (λ c. let d = c .before .before in before-first _ _ (limits (d .before .before)) (differ d)) (λ c. omega (arith, few (c .before))) (λ c. omega (arith, few (c .before))) price-leg-requires
+    (λ c. let d = c .before .before in before-first _ _ (limits (d .before .before .before)) (differ d)) (λ c. omega (arith, few (c .before))) (λ c. omega (arith, few (c .before))) price-leg-requires
     (λ c. search needs) (λ c κs. search needs) returns-3 (λ c. search needs) (λ c. omega (arith, few (c .before .before .before .before .before .before)))
     (λ c. omega (arith, few (c .before .before .before .before .before .before))) (λ c. search needs)
     (λ c. omega (arith, (let l = c .before .before .before .before .before .before in fare-small _ _ (known l) (other l) (next c)))) (λ c. omega arith) (λ c. omega arith) next

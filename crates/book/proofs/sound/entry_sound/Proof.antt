@@ -5,11 +5,13 @@ use mathlib.Core.Path.{_≡_, _∙_, ap}
 use mathlib.Core.Bool.{true, and-true}
 use mathlib.Core.List.{List}
 use native.Mathlib.Omega.{arith}
-use lib.ListN.{getD, drop}
+use lib.ListN.{length, getD, drop}
 use borrow.Author.Needs.{needs}
 use borrow.Author.Tests.{le-leb, lt-leb}
-use Rattle.common.specs.Lists.{every}
+use Rattle.common.specs.Lists.{every, only, firstOf}
 use Rattle.common.proofs.Tests.{fails, holds}
+use Rattle.fares.specs.Question.{isGiven}
+use Rattle.fares.specs.Reductions.{partBound}
 use Rattle.book.specs.Words.{Entry, countAt, askedAt, sequenceAt, questionOf, entryOf}
 use Rattle.book.specs.Sound.{isZero, numberInLimits, askedSound, boundOf, isBounded, entrySound}
 use Rattle.book.proofs.EntryWords.{count-at, unused-parts}
@@ -30,6 +32,10 @@ past-asked c = entryOf (words-at c)
 abbrev past-bounded : tie.Else3 → Entry
 past-bounded c = past-asked (c .before .before .before .before)
 
+-- the bound on a part, by the cards
+abbrev boundFor : List ℕ → ℕ
+boundFor cards = partBound (length (only isGiven (firstOf 0 4 cards)))
+
 -- what was shown on the way
 number-in : (c : tie.Else1) → numberInLimits (past-number c .till) (past-number c .sequence) ≡ true
 number-in c = holds (c .before .is-number .result) (c .if1 .left) (c .before .is-number .ensures)
@@ -40,7 +46,7 @@ asked-in c = holds (c .before .asked-sound .result) (c .if2 .left) (c .before .a
 bounded : (c : tie.After-all-bounded) → let e = past-asked (c .before .before .before) in c .all-bounded .result ≡ isBounded (boundOf (questionOf (e .asked))) (e .parts)
 bounded c =
     let a = c .before .before .before in
-    c .all-bounded .ensures ∙ ap (λ b. isBounded b (past-asked a .parts)) (c .before .part-bound .ensures ∙ ap boundOf (a .before .before .before .question-in .ensures))
+    c .all-bounded .ensures ∙ ap (λ b. isBounded b (past-asked a .parts)) (c .before .part-bound .ensures ∙ ap boundFor (a .before .before .before .cards-in .ensures))
 
 bounded-in : (c : tie.Else3) → let e = past-bounded c in isBounded (boundOf (questionOf (e .asked))) (e .parts) ≡ true
 bounded-in c = holds (c .before .all-bounded .result) (c .if3 .left) (bounded (c .before))

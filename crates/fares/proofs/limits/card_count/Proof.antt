@@ -24,12 +24,12 @@ abbrev μ-loop : tie.MeasureT-loop
 
 -- the slot at hand counts if it is used
 head : (c : tie.In-loop Inv-loop μ-loop) → let l = c .before in
-    let cards = l .before .before .args .q .cards in
+    let cards = l .before .args .t1 in
     let rest = length (only isGiven (drop (l .loop .k + 1) (firstOf 0 4 cards))) in
     length (only isGiven (drop (l .loop .k) (firstOf 0 4 cards))) ≡ cond (isGiven (getD cards (l .loop .k) 0)) (suc rest) rest
 head c =
     let l = c .before in
-    let cards = l .before .before .args .q .cards in
+    let cards = l .before .args .t1 in
     let t = c .loop-test .taken in
     count-step (firstOf 0 4 cards) (l .loop .k) (rw first-length t) ∙ rw (first-at 0 4 cards (l .loop .k) t)
 
@@ -44,7 +44,7 @@ returns : tie.Need-returns Inv-loop μ-loop
 unfolding only
 returns c =
     let l = c .before in
-    let cards = l .before .before .args .q .cards in
+    let cards = l .before .args .t1 in
     let e : length (only isGiven (drop (l .loop .k) (firstOf 0 4 cards))) ≡ 0 = rw (none-behind (firstOf 0 4 cards) (l .loop .k) (rw first-length (omega arith))) in
     omega (arith, e, l .loop .inv .2)
 

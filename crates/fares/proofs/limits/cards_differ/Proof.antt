@@ -24,13 +24,13 @@ abbrev μ-loop : tie.MeasureT-loop
 
 -- the slot at hand, and then those after it
 head : (c : tie.In-loop Inv-loop μ-loop) → let l = c .before in
-    let cards = l .before .before .before .before .args .q .cards in
+    let cards = l .before .before .before .args .t1 in
     let card = getD cards (l .loop .k) 0 in
     let rest = drop (l .loop .k + 1) (firstOf 0 4 cards) in
     cardsDiffer (firstOf 0 4 cards) ≡ (not (isGiven card && any (eqb card) rest) && cardsDiffer rest)
 head c =
     let l = c .before in
-    let cards = l .before .before .before .before .args .q .cards in
+    let cards = l .before .before .before .args .t1 in
     let t = c .loop-test .taken in
     l .loop .inv .1 ∙ (differ-step (firstOf 0 4 cards) (l .loop .k) (rw first-length t) ∙ rw (first-at 0 4 cards (l .loop .k) t))
 
@@ -38,7 +38,7 @@ returns : tie.Need-returns Inv-loop μ-loop
 unfolding firstOf
 returns c =
     let m = c .before in
-    let cards = m .before .before .args .q .cards in
+    let cards = m .before .args .t1 in
     sym (one-differs (getD cards 0 0) (drop 1 (firstOf 0 4 cards)) (sym (m .one-at-most .ensures) ∙ c .if1 .taken))
 
 returns-2 : tie.Need-returns-2 Inv-loop μ-loop
@@ -56,7 +56,7 @@ returns-3 : tie.Need-returns-3 Inv-loop μ-loop
 unfolding cardsDiffer
 returns-3 c =
     let l = c .before in
-    sym (l .loop .inv .1 ∙ rw (none-behind (firstOf 0 4 (l .before .before .before .before .args .q .cards)) (l .loop .k) (rw first-length (omega arith))))
+    sym (l .loop .inv .1 ∙ rw (none-behind (firstOf 0 4 (l .before .before .before .args .t1)) (l .loop .k) (rw first-length (omega arith))))
 
 pub cards-differ-spec : {M : Type 1} → statement M
 cards-differ-spec =
