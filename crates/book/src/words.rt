@@ -3,7 +3,7 @@ ghost use mathlib.Core.Path.{_≡_};
 ghost use Prim.Native.Nat.{_+_, _≤_, _<_};
 ghost use lib.ListN.{length, take, drop};
 ghost use Rattle.common.specs.Lists.{every, same};
-ghost use Rattle.book.specs.Words.{questionWidth, bookLength, legAt, legOf, questionWords, questionOf};
+ghost use Rattle.book.specs.Words.{questionWidth, bookLength, railwayAt, legAt, legOf, questionWords, questionOf};
 ghost use Rattle.book.specs.Sound.{isZero};
 ghost use Rattle.book.specs.Helpers.{legsClear, unusedZero};
 use fares::Leg;
@@ -178,6 +178,27 @@ fn legs_clear(words: &[u32], count: usize) -> bool
     true
 }
 
+fn sum_of_four(first: u32, second: u32, third: u32, fourth: u32) -> u64
+    ensures { λ r. ⌜ r ≡ first + second + third + fourth ⌝ }
+{
+    first as u64 + second as u64 + third as u64 + fourth as u64
+}
+
+// Whether all words of the legs from one on are zero: a leg's four are added up at once.
+fn legs_zero(words: &[u32], first: usize) -> bool
+    requires { ⌜ (length (now words) ≡ questionWidth) × (first ≤ 8) ⌝ }
+    ensures { λ r. ⌜ r ≡ every isZero (drop (railwayAt first) (now (words .entry))) ⌝ }
+{
+    let mut sum: u64 = 0;
+    let mut j = first;
+    while j < 8 {
+        let at = LEGS + LEG_WIDTH * j;
+        sum += sum_of_four(words[at], words[at + 1], words[at + 2], words[at + 3]);
+        j += 1;
+    }
+    sum == 0
+}
+
 // Whether what a question of so many legs does not use is zero.
 pub fn unused_zero(words: &[u32], count: usize) -> bool
     requires { ⌜ (length (now words) ≡ questionWidth) × (count ≤ 8) ⌝ }
@@ -189,8 +210,7 @@ pub fn unused_zero(words: &[u32], count: usize) -> bool
     if !all_zero(&words[MORE_PAIRS..LEGS]) {
         return false;
     }
-    let legs = LEGS + LEG_WIDTH * count;
-    if !all_zero(&words[legs..QUESTION_WIDTH]) {
+    if !legs_zero(words, count) {
         return false;
     }
     legs_clear(words, count)

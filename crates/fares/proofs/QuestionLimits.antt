@@ -51,7 +51,9 @@ module _ (q : Question) where
   -- what is asked for besides cards and legs, then the cards, then the legs
   pub limits-apart : inLimits q ≡ (tripInLimits (q .offer) (q .day) (q .persons) (q .count) && (cardsInLimits (cardSlots q) && every legInLimits (legsOf q)))
   unfolding inLimits every tripInLimits
-  limits-apart = go (between 1 99999 (q .offer)) (isDay (q .day)) (between 1 99 (q .persons)) (cardsInLimits (cardSlots q)) (between 1 8 (q .count)) (every legInLimits (legsOf q))
+  limits-apart =
+      go (between 1 99999 (q .offer)) (isDay (q .day)) (between 1 99 (q .persons)) (cardsInLimits (cardSlots q)) (between 1 8 (q .count))
+      (every legInLimits (legsOf q))
     where
       go : (offer day persons cards count legs : Bool)
           → (offer && (day && (persons && (cards && (count && (legs && true)))))) ≡ ((offer && (day && (persons && count))) && (cards && legs))

@@ -1,5 +1,5 @@
--- What the code's helpers answer: places in the bundle in place of numbers of records, and the price of one leg and of an accepted bundle. Nothing here
--- has to be believed: no promise and no answer of a call is stated with it.
+-- What the code's helpers answer: limits but for cards and legs, places in the bundle in place of numbers of records, and the price of one leg and of an
+-- accepted bundle. Nothing here has to be believed: no promise and no answer of a call is stated with it.
 -- Assumes nothing.
 use Prim.Native.Nat.{ℕ, _-_}
 use mathlib.Core.Bool.{Bool, _&&_}

@@ -22,7 +22,8 @@ loop-again : tie.Need-loop-again Inv-loop μ-loop
 loop-again c =
     let l = c .before .before .before in
     let a = l .before .before .args in
-    (omega arith, l .loop .inv .1 ∙ rw (every-step (λ p. leb p (a .bound)) (a .parts .now) (l .loop .k) 0 (c .before .before .loop-test .taken), c .both .ensures, and-assoc) refl)
+    let e = every-step (λ p. leb p (a .bound)) (a .parts .now) (l .loop .k) 0 (c .before .before .loop-test .taken) in
+    (omega arith, l .loop .inv .1 ∙ rw (e, c .both .ensures, and-assoc) refl)
 
 pub all-bounded-spec : {M : Type 1} → statement M
 all-bounded-spec =

@@ -37,8 +37,10 @@ trip-in c = holds (c .before .trip-in-limits .result) (c .if1 .left) (c .before 
 few : (c : tie.Else1) → asked c .count ≤ 8
 few c = trip-few _ _ _ _ (trip-in c)
 
-apart : (c : tie.Else1) → askedSound (words-at c)
-    ≡ (cardsInLimits (cardSlots (asked c)) && (cardsDiffer (cardSlots (asked c)) && (unusedZero (words-at c) (asked c .count) && every legInLimits (upTo (legOf (words-at c)) (asked c .count)))))
+apart : (c : tie.Else1) → let w = words-at c in
+    let q = asked c in
+    askedSound w
+    ≡ (cardsInLimits (cardSlots q) && (cardsDiffer (cardSlots q) && (unusedZero w (q .count) && every legInLimits (upTo (legOf w) (q .count)))))
 apart c = sound-apart (words-at c) (start c .pre .0) (few c) ∙ rw (trip-in c)
 
 limited : (c : tie.After-cards-in-limits) → c .cards-in-limits .result ≡ cardsInLimits (cardSlots (asked (c .before)))

@@ -2,7 +2,7 @@
 -- Assumes nothing.
 use Prim.Native.Nat.{_≤_, _-_, _+_}
 use mathlib.Core.Bool.{_&&_}
-use mathlib.Core.Path.{_≡_, refl, sym, _∙_, ap}
+use mathlib.Core.Path.{_≡_, refl, sym, _∙_}
 use native.Mathlib.Omega.{arith}
 use lib.ListN.{drop}
 use borrow.Author.Needs.{needs}
@@ -42,5 +42,6 @@ returns-2 c =
 pub legs-in-limits-spec : {M : Type 1} → statement M
 legs-in-limits-spec =
     tie.close (tie.spec
-    Inv-loop μ-loop (λ c. (omega arith, refl)) (λ c κs. let s = c .before .before .before in (s .pre .0, omega (arith, s .pre .1))) (λ c κs. search needs) (λ c. sym (head (c .before) ∙ rw (not-true (c .before .leg-in-limits .result) (c .if1 .taken))))
-    (λ c. omega arith) (λ c. omega arith) (λ c. (omega arith, head (c .before) ∙ rw (not-false (c .before .leg-in-limits .result) (c .if1 .left)))) returns-2)
+    Inv-loop μ-loop (λ c. (omega arith, refl)) (λ c κs. let s = c .before .before .before in (s .pre .0, omega (arith, s .pre .1))) (λ c κs. search needs)
+    (λ c. sym (head (c .before) ∙ rw (not-true (c .before .leg-in-limits .result) (c .if1 .taken)))) (λ c. omega arith) (λ c. omega arith)
+    (λ c. (omega arith, head (c .before) ∙ rw (not-false (c .before .leg-in-limits .result) (c .if1 .left)))) returns-2)

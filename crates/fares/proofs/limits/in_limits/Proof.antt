@@ -29,4 +29,6 @@ in-limits-spec =
     (λ c. let t = c .before .before .before in
     sym (limits-apart (asked t) ∙ rw (trip-in t, fails (c .before .cards-in-limits .result) (c .if2 .taken) (c .before .cards-in-limits .ensures))))
     (λ c. search needs) (λ c κs. trip-few _ _ _ _ (trip-in (c .before .before .before .before .before)))
-    (λ c. let d = c .before .before .before in let t = d .before .before .before in sym (limits-apart (asked t) ∙ rw (trip-in t, cards-in d, ← c .legs-in-limits .ensures))))
+    (λ c. let d = c .before .before .before in
+    let t = d .before .before .before in
+    sym (limits-apart (asked t) ∙ rw (trip-in t, cards-in d, ← c .legs-in-limits .ensures))))

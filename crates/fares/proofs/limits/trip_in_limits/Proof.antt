@@ -26,6 +26,9 @@ trip-in-limits-spec =
     (λ c κs. search needs) (λ c. rw (fails (c .before .is-between .result) (c .if1 .taken) (c .before .is-between .ensures)))
     (λ c κs. search needs) (λ c. rw (offer-in (c .before .before), fails (c .before .is-day .result) (c .if2 .taken) (c .before .is-day .ensures)))
     (λ c κs. search needs)
-    (λ c. let d = c .before .before in rw (offer-in (d .before .before), day-in d, fails (c .before .is-between2 .result) (c .if3 .taken) (c .before .is-between2 .ensures)))
+    (λ c. let d = c .before .before in
+    rw (offer-in (d .before .before), day-in d, fails (c .before .is-between2 .result) (c .if3 .taken) (c .before .is-between2 .ensures)))
     (λ c κs. search needs)
-    (λ c. let p = c .before in let d = p .before .before in rw (offer-in (d .before .before), day-in d, persons-in p, c .is-between3 .ensures)))
+    (λ c. let p = c .before in
+    let d = p .before .before in
+    rw (offer-in (d .before .before), day-in d, persons-in p, c .is-between3 .ensures)))
