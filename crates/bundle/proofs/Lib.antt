@@ -1,6 +1,7 @@
 pub mod Steps
 pub mod Here
-pub mod ShortCuts
+pub mod SeenNumbers
+pub mod HintedPlaces
 pub mod PassLaws
 pub mod ChoiceLaws
 pub mod CutAndJoin

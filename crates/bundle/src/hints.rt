@@ -2,7 +2,7 @@
 // the record is looked for by, so that hints for several numbers can stand behind each other.
 ghost use mathlib.Core.Path.{_≡_};
 ghost use lib.ListN.{getD};
-ghost use Rattle.bundle.specs.ShortCuts.{hintNumber, nameOf, placeIn, KeepsHints};
+ghost use Rattle.bundle.specs.Hints.{hintNumber, nameOf, placeIn, KeepsHints};
 
 // A place is below this.
 const PLACES: u64 = 2097152;

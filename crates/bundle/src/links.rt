@@ -4,7 +4,7 @@ ghost use lib.ListN.{getD};
 ghost use Rattle.common.specs.Lists.{any};
 ghost use Rattle.bundle.specs.Records.{recordsOf, rec};
 ghost use Rattle.bundle.specs.Links.{link as linkOf, linkRows, noLink, isAsked, railwayServes, joins, serves, lacks, missingLink};
-ghost use Rattle.bundle.specs.ShortCuts.{IsPlace, Hinted, servesAt, SearchTells};
+ghost use Rattle.bundle.specs.Hints.{IsPlace, Hinted, servesAt, SearchTells};
 use super::walk::Step;
 
 // A record of `table`, or a CO whose field `flag` is Y, wants a record of `wants` that is joined with it; else the detail is told.

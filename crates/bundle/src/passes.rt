@@ -3,7 +3,7 @@ ghost use mathlib.Core.Path.{_≡_};
 ghost use lib.ListN.{length};
 ghost use Rattle.common.specs.Checks.{firstFault};
 ghost use Rattle.bundle.specs.Records.{recordsOf};
-ghost use Rattle.bundle.specs.ShortCuts.{Hinted};
+ghost use Rattle.bundle.specs.Hints.{Hinted};
 ghost use Rattle.bundle.specs.Verdict.{judged, firstPass, secondPass};
 use super::Judgement;
 use super::walk::Step;

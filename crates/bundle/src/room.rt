@@ -4,7 +4,7 @@ ghost use mathlib.Core.Path.{_≡_};
 ghost use Prim.Native.Nat.{_≤_};
 ghost use lib.ListN.{length};
 ghost use Rattle.bundle.specs.Verdict.{limit, verdictOf};
-ghost use Rattle.bundle.specs.ShortCuts.{Hinted};
+ghost use Rattle.bundle.specs.Hints.{Hinted};
 use super::Judgement;
 
 // The lengths of bundles up to which little room is lent, and some.

@@ -1,6 +1,6 @@
 // Which numbers of keys were seen: what proves that no earlier record has a key, so that it need not be looked for.
 ghost use mathlib.Core.Path.{_≡_};
-ghost use Rattle.bundle.specs.ShortCuts.{InTops, InMarks, Seen, Tells, excludes, marked};
+ghost use Rattle.bundle.specs.Seen.{InTops, InMarks, Seen, Tells, excludes, marked};
 
 // A mark is 0 where nothing was seen, this where numbers of several prints were, and else the print of all that were.
 const SEVERAL: u8 = 255;

@@ -3,7 +3,7 @@
 use Prim.Native.Nat.{ℕ, zero, suc, _+_, _≤_, _<_, zero-le, suc-le-suc}
 use mathlib.Core.Path.{_≡_, refl, sym, _∙_, ap, ap₂}
 use mathlib.Core.Bool.{Bool, true, false, cond, _&&_, _||_, or-true, and-assoc}
-use mathlib.Core.Logic.{⊎-elim}
+use mathlib.Core.Logic.{_⊎_, inl, inr, ⊎-elim}
 use mathlib.Core.List.{List, [], _∷_, _++_, map}
 use native.Mathlib.Nat.{zero-add, le-of-suc-le-suc, not-suc-le-zero}
 use native.Mathlib.Omega.{arith}
@@ -75,6 +75,14 @@ module _ {A : Type 0} (p : A → Bool) (d : A) where
   at-any [] i l h = absurd (not-suc-le-zero l)
   at-any (x ∷ s) zero l h = rw h
   at-any (x ∷ s) (suc i) l h = rw (at-any s i (le-of-suc-le-suc l) h, or-true)
+
+-- a list after a store: the stored number at its place, and elsewhere what was there
+pub after-store : (l : List ℕ) (k j v : ℕ) → ((j ≡ k) × (getD (set l k v) j 0 ≡ v)) ⊎ (getD (set l k v) j 0 ≡ getD l j 0)
+after-store [] k j v = inr refl
+after-store (x ∷ l) zero zero v = inl (refl, refl)
+after-store (x ∷ l) zero (suc j) v = inr refl
+after-store (x ∷ l) (suc k) zero v = inr refl
+after-store (x ∷ l) (suc k) (suc j) v = ⊎-elim (λ h. inl (ap suc (h .0), h .1)) inr (after-store l k j v)
 
 -- the first n elements
 module _ {A : Type 0} (d : A) where

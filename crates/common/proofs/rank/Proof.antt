@@ -1,6 +1,6 @@
 -- `common::rank` meets its contract. The loop's invariant: the bytes passed make v, which is no larger than so many bytes can make it.
 -- Assumes nothing.
-use Prim.Native.Nat.{ℕ, _≤_, _-_, _+_, _*_, _<_, _^_}
+use Prim.Native.Nat.{_≤_, _-_, _+_, _*_, _<_, _^_}
 use mathlib.Core.Path.{_≡_, sym, _∙_}
 use native.Mathlib.Omega.{arith}
 use lib.ListN.{length, drop, getD}

@@ -2,7 +2,7 @@
 -- Assumes nothing.
 use mathlib.Core.Path.{_∙_}
 use borrow.Author.Needs.{needs}
-use Rattle.bundle.specs.ShortCuts.{nameOf}
+use Rattle.bundle.specs.Hints.{nameOf}
 use Rattle.bundle.proofs.hints.name.Statement.{statement}
 use Rattle.bundle.proofs.hints.name.Tie as tie
 

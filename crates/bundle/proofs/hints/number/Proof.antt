@@ -1,7 +1,7 @@
 -- `bundle::hints::number` meets its contract.
 -- Assumes nothing.
 use borrow.Author.Needs.{needs}
-use Rattle.bundle.specs.ShortCuts.{hintNumber}
+use Rattle.bundle.specs.Hints.{hintNumber}
 use Rattle.bundle.proofs.hints.number.Statement.{statement}
 use Rattle.bundle.proofs.hints.number.Tie as tie
 

@@ -3,7 +3,7 @@
 use mathlib.Core.Path.{sym, ap}
 use lib.ListN.{List·getD-eq-default}
 use borrow.Author.Needs.{needs}
-use Rattle.bundle.specs.ShortCuts.{placeIn}
+use Rattle.bundle.specs.Hints.{placeIn}
 use Rattle.bundle.proofs.hints.place_at.Statement.{statement}
 use Rattle.bundle.proofs.hints.place_at.Tie as tie
 

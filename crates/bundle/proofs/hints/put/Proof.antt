@@ -2,7 +2,7 @@
 -- Assumes nothing.
 use Prim.Native.Nat.{_+_, _%_}
 use borrow.Author.Needs.{needs}
-use Rattle.bundle.proofs.ShortCuts.{hint-put}
+use Rattle.bundle.proofs.HintedPlaces.{hint-put}
 use Rattle.bundle.proofs.hints.put.Statement.{statement}
 use Rattle.bundle.proofs.hints.put.Tie as tie
 

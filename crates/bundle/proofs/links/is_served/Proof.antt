@@ -2,7 +2,7 @@
 -- Assumes nothing.
 use mathlib.Core.Path.{refl, sym, _∙_}
 use borrow.Author.Needs.{needs}
-use Rattle.bundle.proofs.ShortCuts.{served-there}
+use Rattle.bundle.proofs.HintedPlaces.{served-there}
 use Rattle.bundle.proofs.links.is_served.Statement.{statement}
 use Rattle.bundle.proofs.links.is_served.Tie as tie
 

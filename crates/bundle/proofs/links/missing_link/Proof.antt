@@ -9,7 +9,7 @@ use Rattle.common.specs.Least.{least}
 use Rattle.common.proofs.Least.{start, more, hit}
 use Rattle.bundle.specs.Records.{rec, recordsOf}
 use Rattle.bundle.specs.Links.{links, lacks, missingLink}
-use Rattle.bundle.specs.ShortCuts.{Hinted}
+use Rattle.bundle.specs.Hints.{Hinted}
 use Rattle.bundle.proofs.links.missing_link.Statement.{statement}
 use Rattle.bundle.proofs.links.missing_link.Tie as tie
 

@@ -1,8 +1,7 @@
 -- `bundle::links::served_around` meets its contract.
 -- Assumes nothing.
 use native.Mathlib.Omega.{arith}
-use borrow.Author.Needs.{needs}
-use Rattle.bundle.proofs.ShortCuts.{start-is-place}
+use Rattle.bundle.proofs.HintedPlaces.{start-is-place}
 use Rattle.bundle.proofs.links.served_around.Statement.{statement}
 use Rattle.bundle.proofs.links.served_around.Tie as tie
 

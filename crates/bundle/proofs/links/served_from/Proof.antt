@@ -2,8 +2,8 @@
 -- decide.
 -- Assumes nothing.
 use Prim.Native.Nat.{ℕ, _+_, _-_}
-use mathlib.Core.Path.{_≡_, refl, sym, _∙_}
-use mathlib.Core.Bool.{true, _||_}
+use mathlib.Core.Path.{_≡_, sym, _∙_}
+use mathlib.Core.Bool.{_||_}
 use native.Mathlib.Omega.{arith}
 use lib.ListN.{length, drop}
 use borrow.Author.Needs.{needs}
@@ -12,7 +12,7 @@ use Rattle.common.proofs.Lists.{at-any}
 use Rattle.bundle.specs.Records.{rec, noRec, recordsOf}
 use Rattle.bundle.specs.Links.{serves}
 use Rattle.bundle.proofs.Here.{Here, Stands, stands, over-there, over-nil}
-use Rattle.bundle.proofs.ShortCuts.{place-here}
+use Rattle.bundle.proofs.HintedPlaces.{place-here}
 use Rattle.bundle.proofs.links.served_from.Statement.{statement}
 use Rattle.bundle.proofs.links.served_from.Tie as tie
 

@@ -6,7 +6,7 @@ use native.Mathlib.Omega.{arith}
 use lib.ListN.{length}
 use borrow.Author.Needs.{needs}
 use Rattle.bundle.proofs.Here.{over-there, step-lies}
-use Rattle.bundle.proofs.ShortCuts.{none-there, one-there}
+use Rattle.bundle.proofs.HintedPlaces.{none-there, one-there}
 use Rattle.bundle.proofs.links.serves_at.Statement.{statement}
 use Rattle.bundle.proofs.links.serves_at.Tie as tie
 

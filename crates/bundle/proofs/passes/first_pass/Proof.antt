@@ -12,7 +12,7 @@ use Rattle.common.proofs.Checks.{as-found}
 use Rattle.layout.specs.Rules.{brokenField}
 use Rattle.bundle.specs.Records.{between}
 use Rattle.bundle.specs.Verdict.{firstPass}
-use Rattle.bundle.specs.ShortCuts.{Hinted}
+use Rattle.bundle.specs.Hints.{Hinted}
 use Rattle.bundle.specs.declared.Judgement.the-variants.{Refused}
 use Rattle.bundle.proofs.Here.{Here, Stands, here-start, stands, unknown-there, short-there}
 use Rattle.bundle.proofs.PassLaws.{firstFrom, first-start, first-unknown, first-short, first-end, found-field, field-fault, fields-pass}

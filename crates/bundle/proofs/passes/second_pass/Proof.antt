@@ -3,7 +3,7 @@
 -- Assumes nothing.
 use Prim.Native.Nat.{ℕ, _-_, _≤_}
 use mathlib.Core.Path.{_≡_, refl, sym, _∙_, ap}
-use mathlib.Core.Bool.{true, false, not}
+use mathlib.Core.Bool.{false, not}
 use mathlib.Core.Logic.{⊎-elim}
 use mathlib.Core.List.{List}
 use native.Mathlib.Omega.{arith}
@@ -19,10 +19,11 @@ use Rattle.bundle.specs.Keys.{clash, otherTransferor, earlierOf}
 use Rattle.bundle.specs.Links.{linkRows, noLink}
 use Rattle.bundle.specs.declared.links.Link.{Link}
 use Rattle.bundle.specs.Verdict.{secondPass}
-use Rattle.bundle.specs.ShortCuts.{Seen, Tells, Hinted}
+use Rattle.bundle.specs.Seen.{Seen, Tells}
+use Rattle.bundle.specs.Hints.{Hinted}
 use Rattle.bundle.specs.declared.Judgement.the-variants.{Refused}
 use Rattle.bundle.proofs.Here.{Here, Stands, here-start, stands, over-there, over-nil, over-count}
-use Rattle.bundle.proofs.ShortCuts.{SeenBefore, new-apart, seen-next}
+use Rattle.bundle.proofs.SeenNumbers.{SeenBefore, new-apart, seen-next}
 use Rattle.bundle.proofs.PassLaws.{secondFrom, second-start, second-end, other-fault, key-fault, link-fault, record-passes, compared}
 use Rattle.bundle.proofs.passes.second_pass.Statement.{statement}
 use Rattle.bundle.proofs.passes.second_pass.Tie as tie

@@ -1,7 +1,7 @@
 -- `bundle::room::with_much` meets its contract.
 -- Assumes nothing.
 use borrow.Author.Needs.{needs}
-use Rattle.bundle.proofs.ShortCuts.{no-hints-yet}
+use Rattle.bundle.proofs.HintedPlaces.{no-hints-yet}
 use Rattle.bundle.proofs.room.with_much.Statement.{statement}
 use Rattle.bundle.proofs.room.with_much.Tie as tie
 

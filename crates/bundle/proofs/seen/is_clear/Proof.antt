@@ -1,7 +1,7 @@
 -- `bundle::seen::is_clear` meets its contract.
 -- Assumes nothing.
 use borrow.Author.Tests.{eq-eqb, ne-eqb}
-use Rattle.bundle.specs.ShortCuts.{excludes}
+use Rattle.bundle.specs.Seen.{excludes}
 use Rattle.bundle.proofs.seen.is_clear.Statement.{statement}
 use Rattle.bundle.proofs.seen.is_clear.Tie as tie
 

@@ -1,9 +1,8 @@
 -- `bundle::seen::is_new` meets its contract.
 -- Assumes nothing.
-use mathlib.Core.Path.{refl}
 use mathlib.Core.Logic.{inl, inr}
 use borrow.Author.Needs.{needs}
-use Rattle.bundle.proofs.ShortCuts.{either-tells}
+use Rattle.bundle.proofs.SeenNumbers.{either-tells}
 use Rattle.bundle.proofs.seen.is_new.Statement.{statement}
 use Rattle.bundle.proofs.seen.is_new.Tie as tie
 

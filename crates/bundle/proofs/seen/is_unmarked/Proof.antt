@@ -1,13 +1,12 @@
 -- `bundle::seen::is_unmarked` meets its contract.
 -- Assumes nothing.
 use Prim.Native.Nat.{_%_, _<_}
-use mathlib.Core.Path.{_≡_}
 use native.Mathlib.Omega.{arith}
 use native.Mathlib.Nat.{mod-lt}
 use lib.ListN.{length}
 use borrow.Author.Needs.{needs}
-use Rattle.bundle.specs.ShortCuts.{InMarks}
-use Rattle.bundle.proofs.ShortCuts.{not-new, marks-tell}
+use Rattle.bundle.specs.Seen.{InMarks}
+use Rattle.bundle.proofs.SeenNumbers.{not-new, marks-tell}
 use Rattle.bundle.proofs.seen.is_unmarked.Statement.{statement}
 use Rattle.bundle.proofs.seen.is_unmarked.Tie as tie
 

@@ -2,8 +2,8 @@
 -- Assumes nothing.
 use native.Mathlib.Omega.{arith}
 use borrow.Author.Needs.{needs}
-use Rattle.bundle.specs.ShortCuts.{InTops}
-use Rattle.bundle.proofs.ShortCuts.{not-new, tops-tell}
+use Rattle.bundle.specs.Seen.{InTops}
+use Rattle.bundle.proofs.SeenNumbers.{not-new, tops-tell}
 use Rattle.bundle.proofs.seen.rises.Statement.{statement}
 use Rattle.bundle.proofs.seen.rises.Tie as tie
 

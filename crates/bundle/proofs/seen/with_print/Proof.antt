@@ -1,7 +1,7 @@
 -- `bundle::seen::with_print` meets its contract.
 -- Assumes nothing.
 use borrow.Author.Tests.{eq-eqb, ne-eqb}
-use Rattle.bundle.specs.ShortCuts.{marked}
+use Rattle.bundle.specs.Seen.{marked}
 use Rattle.bundle.proofs.seen.with_print.Statement.{statement}
 use Rattle.bundle.proofs.seen.with_print.Tie as tie
 

@@ -1,51 +1,31 @@
--- Laws of what the verdict keeps in mind: that a number told to be new is no earlier record's, and that every hint stays a place of a record.
+-- Laws of the numbers seen: one told to be new is no earlier record's.
 -- Assumes nothing.
-use Prim.Native.Nat.{ℕ, zero, suc, _+_, _*_, _%_, _≤_, _<_}
-use mathlib.Core.Path.{_≡_, refl, sym, _∙_, ap}
+use Prim.Native.Nat.{ℕ, _+_, _%_, _<_}
+use mathlib.Core.Path.{_≡_, refl, _∙_, ap}
 use mathlib.Core.Bool.{Bool, true, false, cond, not, _&&_, _||_, and-false}
-use mathlib.Core.Logic.{_⊎_, inl, inr, ⊎-elim}
-use mathlib.Core.List.{List, [], _∷_}
+use mathlib.Core.Logic.{_⊎_, ⊎-elim}
+use mathlib.Core.List.{List}
 use native.Mathlib.Omega.{arith}
 use native.Mathlib.Nat.{mod-lt}
 use lib.Dec.{eqb}
-use lib.ListN.{length, getD, drop, set, length-set, replicate, List·getD-eq-default}
+use lib.ListN.{length, getD, set, length-set}
 use lib.Seq.{getD-set-same}
 use borrow.Author.Tests.{eqb-true, eq-eqb, ne-eqb}
 use Rattle.common.specs.Least.{least}
-use Rattle.common.specs.Lists.{any}
 use Rattle.common.proofs.Least.{none as none-is}
-use Rattle.common.proofs.Lists.{at-any}
+use Rattle.common.proofs.Lists.{after-store}
 use Rattle.common.proofs.Tests.{never, both-true, side, refuted}
 use Rattle.layout.specs.Helpers.{keyNumber}
 use Rattle.layout.proofs.Tables.{same-number}
-use Rattle.bundle.specs.Records.{Rec, rec, noRec, ifWhole, between, recordsOf}
+use Rattle.bundle.specs.Records.{Rec, noRec}
 use Rattle.bundle.specs.Keys.{clash}
-use Rattle.bundle.specs.Links.{serves}
-use Rattle.bundle.specs.Helpers.{stepAt, placesOf}
-use Rattle.bundle.specs.ShortCuts.{InTops, printOf, excludes, marked, InMarks, Seen, Tells, IsPlace, placeIn, Hinted, KeepsHints, servesAt}
-use Rattle.bundle.specs.declared.links.Link.{Link}
-use Rattle.bundle.specs.declared.walk.Step.{Step}
-use Rattle.bundle.specs.declared.walk.Step.the-variants.{Unknown, Short, Whole}
-use Rattle.bundle.proofs.Here.{Here, Over, unknown, short, stands, here-at-place}
+use Rattle.bundle.specs.Seen.{InTops, printOf, excludes, marked, InMarks, Seen, Tells}
 
--- a list after a store: the stored number at its place, and elsewhere what was there
-after-store : (l : List ℕ) (k j v : ℕ) → ((j ≡ k) × (getD (set l k v) j 0 ≡ v)) ⊎ (getD (set l k v) j 0 ≡ getD l j 0)
-after-store [] k j v = inr refl
-after-store (x ∷ l) zero zero v = inl (refl, refl)
-after-store (x ∷ l) zero (suc j) v = inr refl
-after-store (x ∷ l) (suc k) zero v = inr refl
-after-store (x ∷ l) (suc k) (suc j) v = ⊎-elim (λ h. inl (ap suc (h .0), h .1)) inr (after-store l k j v)
-
-getD-zeros : (n k : ℕ) → _≡_ {A = ℕ} (getD (replicate n 0) k 0) 0
-getD-zeros zero k = refl
-getD-zeros (suc n) zero = refl
-getD-zeros (suc n) (suc k) = getD-zeros n k
-
--- NUMBERS SEEN: what is seen already is not told to be new
+-- what is seen already is not told to be new
 pub not-new : (P : ℕ → ℕ → Type 0) (t n : ℕ) → P t n → Tells P P t n false
 not-new P t n h = ((λ e. never e refl), h, λ u m k. k)
 
--- by the greatest number of each table,
+-- BY THE GREATEST NUMBER OF EACH TABLE
 module _ (tops : List ℕ) (t n : ℕ) (l : t < length tops) (a : getD tops t 0 < n) where
   raised : (u m : ℕ) → InTops tops u m → InTops (set tops t n) u m
   raised u m h k =
@@ -55,7 +35,7 @@ module _ (tops : List ℕ) (t n : ℕ) (l : t < length tops) (a : getD tops t 0 
   pub tops-tell : Tells (InTops tops) (InTops (set tops t n)) t n true
   tops-tell = ((λ e h. omega (arith, h l)), (λ k. rw (getD-set-same tops t n 0 l) (omega arith)), raised)
 
--- by marks.
+-- BY MARKS: a number that leaves its print is seen, and a print left keeps what was seen
 mark-holds : (mark print : ℕ) → 0 < print → excludes (marked mark print) print ≡ false
 unfolding excludes marked
 mark-holds mark print l = go (eqb mark 0 || eqb mark print)
@@ -99,7 +79,7 @@ module _ (marks : List ℕ) (n : ℕ) (l : 0 < length marks) where
     remarked,
   )
 
--- By both: one of them is enough to tell that a number is new.
+-- BY BOTH: one of them is enough to tell that a number is new.
 pub either-tells : (tops raised marks remarked : List ℕ) (t n : ℕ) (a b new : Bool) → Tells (InTops tops) (InTops raised) t n a
     → Tells (λ u m. InMarks marks m) (λ u m. InMarks remarked m) 0 n b → (new ≡ true → (a ≡ true) ⊎ (b ≡ true))
     → Tells (Seen tops marks) (Seen raised remarked) t n new
@@ -130,44 +110,3 @@ module _ (R : List Rec) where
         → Tells (Seen tops marks) (Seen after marked) (r .table) (keyNumber (r .table) (r .body)) new → SeenBefore after marked (i + 1)
     seen-next after marked new e t j l =
         ⊎-elim (λ h. t .2 _ _ (b j h)) (λ h. let q : j ≡ i = omega arith in rw (q, e) (t .1)) (side j i)
-
--- PLACES: a place is a position of the walk,
-pub place-here : (s : List ℕ) (p : ℕ) → IsPlace s p → (j : ℕ) × Here s p j
-place-here s p h = rw (h .1) at (here-at-place s (h .0))
-
--- the bundle's start is one,
-pub start-is-place : (s : List ℕ) → IsPlace s 0
-start-is-place s = (length (placesOf s), List·getD-eq-default (placesOf s) 0 {n = length (placesOf s)} (omega arith))
-
-pub no-hints-yet : (s : List ℕ) (n : ℕ) → Hinted s (replicate n 0)
-no-hints-yet s n k = rw (getD-zeros n k) (start-is-place s)
-
--- and a hint that is put keeps the others.
-pub hint-put : (hints : List ℕ) (k p tag : ℕ) → p < 2097152 → KeepsHints p hints (set hints k (tag * 2097152 + p))
-hint-put hints k p tag l s h f j =
-    let e : placeIn (tag * 2097152 + p) ≡ p = omega arith in
-    ⊎-elim (λ q. rw (q .1, e) h) (λ q. rw q (f j)) (after-store hints k j (tag * 2097152 + p))
-
--- WHETHER A RECORD SERVES AT A PLACE, by the step that was made there;
-module _ (s : List ℕ) (l : Link) (r : Rec) (p : ℕ) where
-  pub none-there : Over (drop p s) → false ≡ servesAt s l r p
-  unfolding servesAt stepAt
-  none-there (unknown e) = rw e
-  none-there (short e) = rw e
-
-  pub one-there : {v : Step} {t start next : ℕ} → v ≡ stepAt s p → v ≡ Whole t start next → serves l r (rec t (between start next s)) ≡ servesAt s l r p
-  unfolding servesAt
-  one-there q e = rw (sym q ∙ e)
-
--- one that does is one of the bundle's.
-pub served-there : (s : List ℕ) (l : Link) (r : Rec) (p : ℕ) → IsPlace s p → servesAt s l r p ≡ true → any (serves l r) (recordsOf s) ≡ true
-unfolding servesAt
-served-there s l r p h e = go (stepAt s p) refl e
-  where
-    go : (v : Step) → v ≡ stepAt s p → ifWhole v false (λ t start next. serves l r (rec t (between start next s))) ≡ true → any (serves l r) (recordsOf s) ≡ true
-    go Unknown q e = never e refl
-    go Short q e = never e refl
-    go (Whole t start next) q e =
-        let x = place-here s p h in
-        let w = stands s p (x .0) (x .1) q refl in
-        at-any (serves l r) noRec (recordsOf s) (x .0) (w .below) (rw (w .at) e)

@@ -1,0 +1,66 @@
+-- Laws of hints: each stays the place of a record, and a record that serves there is one of the bundle's.
+-- Assumes nothing.
+use Prim.Native.Nat.{ℕ, zero, suc, _+_, _*_, _<_}
+use mathlib.Core.Path.{_≡_, refl, sym, _∙_}
+use mathlib.Core.Bool.{true, false}
+use mathlib.Core.Logic.{⊎-elim}
+use mathlib.Core.List.{List}
+use native.Mathlib.Omega.{arith}
+use lib.ListN.{length, getD, drop, set, replicate, List·getD-eq-default}
+use Rattle.common.specs.Lists.{any}
+use Rattle.common.proofs.Lists.{at-any, after-store}
+use Rattle.common.proofs.Tests.{never}
+use Rattle.bundle.specs.Records.{Rec, rec, noRec, ifWhole, between, recordsOf}
+use Rattle.bundle.specs.Links.{serves}
+use Rattle.bundle.specs.Helpers.{stepAt, placesOf}
+use Rattle.bundle.specs.Hints.{IsPlace, placeIn, Hinted, KeepsHints, servesAt}
+use Rattle.bundle.specs.declared.links.Link.{Link}
+use Rattle.bundle.specs.declared.walk.Step.{Step}
+use Rattle.bundle.specs.declared.walk.Step.the-variants.{Unknown, Short, Whole}
+use Rattle.bundle.proofs.Here.{Here, Over, unknown, short, stands, here-at-place}
+
+-- PLACES: a place is a position of the walk,
+pub place-here : (s : List ℕ) (p : ℕ) → IsPlace s p → (j : ℕ) × Here s p j
+place-here s p h = rw (h .1) at (here-at-place s (h .0))
+
+-- the bundle's start is one,
+pub start-is-place : (s : List ℕ) → IsPlace s 0
+start-is-place s = (length (placesOf s), List·getD-eq-default (placesOf s) 0 {n = length (placesOf s)} (omega arith))
+
+getD-zeros : (n k : ℕ) → _≡_ {A = ℕ} (getD (replicate n 0) k 0) 0
+getD-zeros zero k = refl
+getD-zeros (suc n) zero = refl
+getD-zeros (suc n) (suc k) = getD-zeros n k
+
+pub no-hints-yet : (s : List ℕ) (n : ℕ) → Hinted s (replicate n 0)
+no-hints-yet s n k = rw (getD-zeros n k) (start-is-place s)
+
+-- and a hint that is put keeps the others.
+pub hint-put : (hints : List ℕ) (k p tag : ℕ) → p < 2097152 → KeepsHints p hints (set hints k (tag * 2097152 + p))
+hint-put hints k p tag l s h f j =
+    let e : placeIn (tag * 2097152 + p) ≡ p = omega arith in
+    ⊎-elim (λ q. rw (q .1, e) h) (λ q. rw q (f j)) (after-store hints k j (tag * 2097152 + p))
+
+-- WHETHER A RECORD SERVES AT A PLACE, by the step that was made there;
+module _ (s : List ℕ) (l : Link) (r : Rec) (p : ℕ) where
+  pub none-there : Over (drop p s) → false ≡ servesAt s l r p
+  unfolding servesAt stepAt
+  none-there (unknown e) = rw e
+  none-there (short e) = rw e
+
+  pub one-there : {v : Step} {t start next : ℕ} → v ≡ stepAt s p → v ≡ Whole t start next → serves l r (rec t (between start next s)) ≡ servesAt s l r p
+  unfolding servesAt
+  one-there q e = rw (sym q ∙ e)
+
+-- one that does is one of the bundle's.
+pub served-there : (s : List ℕ) (l : Link) (r : Rec) (p : ℕ) → IsPlace s p → servesAt s l r p ≡ true → any (serves l r) (recordsOf s) ≡ true
+unfolding servesAt
+served-there s l r p h e = go (stepAt s p) refl e
+  where
+    go : (v : Step) → v ≡ stepAt s p → ifWhole v false (λ t start next. serves l r (rec t (between start next s))) ≡ true → any (serves l r) (recordsOf s) ≡ true
+    go Unknown q e = never e refl
+    go Short q e = never e refl
+    go (Whole t start next) q e =
+        let x = place-here s p h in
+        let w = stands s p (x .0) (x .1) q refl in
+        at-any (serves l r) noRec (recordsOf s) (x .0) (w .below) (rw (w .at) e)
