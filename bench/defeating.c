@@ -7,77 +7,104 @@
 #include <stdlib.h>
 #include <string.h>
 
-/* What the short cuts are made of, as crates/bundle/src has them for a bundle of this size. The number of a key begins with the number of its
- * table, and each byte b makes it FACTOR * number + b. A key whose number is above all earlier ones of its table is new; so is one whose slot,
- * number % MARKS, is empty or has only seen another print. A link looks first at one place, that of (offer % PLACES), which keeps the latest
- * record for all railways or else the first; then it walks on from where the last such link ended, around the bundle. */
-enum { MARKS = 65536, PRINTS = 254, PLACES = 2048, FACTOR = 31, AR_NUMBER = 2 };
+/* What the short cuts are made of, as crates/bundle/src has them for a bundle of this size. A number is made of digits, their bytes to the base
+ * BASE, and of a table. A key whose number is above all earlier ones of its table is new; so is one whose mark, at number % MARKS, is empty or has
+ * only seen another print. A link looks first where a hint says, by the number of its offer or code: it passes over up to TRIES slots that a tag
+ * shows to be others', from number % HINTS on and each STRIDE further, and believes the one behind them. Records take empty slots as they come; a
+ * link that its hint does not help walks on from where the last of its kind was found, around the bundle, and puts what it finds into that slot. */
+enum { BASE = 19, TABLE_STEP = 1000003, MARKS = 65536, PRINTS = 254, HINTS = 12288, TRIES = 8, STRIDE = 509 };
+enum table { CO, RE, AR };
 
-/* All CO fall into one place, where a CO that no AR wants stands for all railways. AR go from the last of the other offers down to the first and
- * again, so that the walk for nearly each goes around the whole bundle; the first of them has the greatest key, and the keys of all fall into few
- * slots, which soon have seen two prints and prove nothing. */
-enum { OFFERS = 48, FIRST_OFFER = 1695, CODES = 16, RAILWAYS = 10000, SLOTS = 256, KEY = 12, BYTES_OF_AR = 51, BYTES_OF_CO = 157, BYTES_OF_RE = 442 };
+/* Each code has an RE, and OFFERS_EACH CO whose offers start from the same slot as the code. CO that no AR wants come before them and take all that
+ * is passed over, so that in the one slot behind code and offers put each other out. The codes are such that share slots, which saves CO. AR go from
+ * the last code and the last offer down to the first and again: the walk for nearly each link goes around the whole bundle. Each turn has codes
+ * meet other offers, for more keys. The keys of all AR have few marks, which soon have seen two prints and prove nothing. */
+enum { CODES = 12, OFFERS_EACH = 3, OFFERS = CODES * OFFERS_EACH, TURN = 1000, RAILWAYS = 10000, FEW_MARKS = 512, KEY = 12, BYTES_OF_AR = 51 };
+
+static const unsigned CODE_LIST[CODES] = {8, 184, 717, 893, 9, 185, 718, 894, 109, 285, 818, 994};
+static const struct recipe NO_LINKS = {"", 1, 0, 0, 0, 1, 0, 0};
 
 static struct bundle bundle;
 
-/* ---- the keys */
+/* ---- numbers and slots */
 
-static uint64_t number_of(const uint8_t *key) {
-    uint64_t number = AR_NUMBER;
-    for (int k = 0; k < KEY; k++) number = number * FACTOR + key[k];
+static uint64_t number_of(enum table table, int digits, uint64_t value) {
+    uint64_t number = (uint64_t)table * TABLE_STEP, weight = 1;
+    for (int k = 0; k < digits; k++, value /= 10, weight *= BASE) number += weight * ('0' + value % 10);
     return number;
 }
 
-static unsigned offer_at(unsigned k) { return FIRST_OFFER + k * PLACES; }
-
-static void write_digits(uint8_t *to, int count, unsigned value) {
-    for (int k = count - 1; k >= 0; k--, value /= 10) to[k] = (uint8_t)('0' + value % 10);
+static uint64_t key_number(unsigned offer, unsigned railway, unsigned code) {
+    return number_of(AR, KEY, offer * (uint64_t)10000000 + railway * 1000 + code);
 }
 
-static int is_in_few_slots(unsigned offer, unsigned railway, unsigned code) {
-    uint8_t key[KEY];
-    write_digits(key, 5, offer);
-    write_digits(key + 5, 4, railway);
-    write_digits(key + 9, 3, code);
-    return number_of(key) % MARKS < SLOTS;
+static unsigned slot_of_code(unsigned code) { return (unsigned)(number_of(RE, 3, code) % HINTS); }
+
+/* The first offer above another whose number has this slot. */
+static unsigned offer_above(unsigned offer, unsigned slot) {
+    do offer++;
+    while (number_of(CO, 5, offer) % HINTS != slot);
+    demand(offer < 100000, "there are too few offers of a slot");
+    return offer;
 }
 
-/* The keys of an offer are gone through from its last railway and code down; `at` is what is left of them. */
-static int add_next(struct bundle *b, unsigned offer, unsigned *at) {
-    while (*at > 0) {
-        unsigned left = --*at, railway = left / CODES, code = 1 + left % CODES;
-        if (!is_in_few_slots(offer, railway, code)) continue;
-        add_ar(b, offer, railway, code);
-        return 1;
-    }
-    return 0;
+/* The first offer of a slot is for a CO that no AR wants. */
+static unsigned wanted_offer(unsigned k) {
+    unsigned slot = slot_of_code(CODE_LIST[k % CODES]), offer = offer_above(0, slot);
+    for (unsigned n = 0; n <= k / CODES; n++) offer = offer_above(offer, slot);
+    return offer;
 }
 
 /* ---- the bundle */
 
+/* The slot behind them is left to the RE. */
+static void fill_slots(struct bundle *b, uint8_t *filled, unsigned slot) {
+    for (int k = 0; k < TRIES; k++, slot = (slot + STRIDE) % HINTS) {
+        if (!filled[slot]) add_co(b, NO_LINKS, offer_above(0, slot), 1);
+        filled[slot] = 1;
+    }
+    filled[slot] = 1;
+}
+
 static void add_needed(struct bundle *b) {
-    const struct recipe no_links = {"", 1, 0, 0, 0, 1, 0, 0};
-    for (unsigned code = 1; code <= CODES; code++) add_re(b, code);
-    for (unsigned k = 0; k < OFFERS; k++) add_co(b, no_links, offer_at(k), k == 0 ? 0 : 1);
+    uint8_t filled[HINTS] = {0};
+    for (unsigned k = 0; k < CODES; k++) fill_slots(b, filled, slot_of_code(CODE_LIST[k]));
+    for (unsigned k = 0; k < CODES; k++) add_re(b, CODE_LIST[k]);
+    for (unsigned k = 0; k < OFFERS; k++) add_co(b, NO_LINKS, wanted_offer(k), 1);
+}
+
+/* The railway of the next key of an offer and a code, from the last one down. */
+static unsigned next_railway(unsigned offer, unsigned code, unsigned *left) {
+    while (*left > 0)
+        if (key_number(offer, --*left, code) % MARKS < FEW_MARKS) return *left;
+    demand(0, "there are too few keys with these marks");
+    return 0;
 }
 
 static void add_discounts(struct bundle *b, size_t size) {
-    unsigned at[OFFERS];
-    for (unsigned k = 0; k < OFFERS; k++) at[k] = RAILWAYS * CODES;
-    for (unsigned k = OFFERS - 1; b->length + BYTES_OF_AR <= size; k = k > 1 ? k - 1 : OFFERS - 1)
-        demand(add_next(b, offer_at(k), &at[k]), "there are too few keys in the slots");
+    unsigned offers[OFFERS], left[OFFERS][CODES];
+    for (unsigned k = 0; k < OFFERS; k++) {
+        offers[k] = wanted_offer(k);
+        for (unsigned n = 0; n < CODES; n++) left[k][n] = RAILWAYS;
+    }
+    for (unsigned i = 0; b->length + BYTES_OF_AR <= size; i++) {
+        unsigned k = OFFERS - 1 - i % OFFERS, n = CODES - 1 - (i + i / TURN) % CODES;
+        add_ar(b, offers[k], next_railway(offers[k], CODE_LIST[n], &left[k][n]), CODE_LIST[n]);
+    }
 }
 
 static void make_defeating(struct bundle *b, int needed_last) {
     b->length = b->records = 0;
-    if (!needed_last) add_needed(b);
-    add_discounts(b, needed_last ? BUNDLE_LIMIT - CODES * BYTES_OF_RE - OFFERS * BYTES_OF_CO : BUNDLE_LIMIT);
+    add_needed(b);
+    size_t needed = b->length;
+    if (needed_last) b->length = b->records = 0;
+    add_discounts(b, needed_last ? BUNDLE_LIMIT - needed : BUNDLE_LIMIT);
     if (needed_last) add_needed(b);
 }
 
 /* ---- how far it is defeated */
 
-/* AR of the bundle that neither the greatest number nor the slots prove to be new. */
+/* AR of the bundle that neither the greatest number nor the marks of AR prove to be new. */
 static unsigned unproved(const struct bundle *b) {
     static uint8_t marks[MARKS];
     memset(marks, 0, sizeof marks);
@@ -85,9 +112,10 @@ static unsigned unproved(const struct bundle *b) {
     unsigned count = 0;
     for (size_t at = 0; at < b->length;) {
         const struct plain_table *table = plain_table_at(b->bytes + at, b->length - at);
-        uint64_t number = number_of(b->bytes + at + PLAIN_MARK + 4);
+        const uint8_t *record = b->bytes + at + PLAIN_MARK;
         at += plain_step(table);
         if (table != &PLAIN_AR) continue;
+        uint64_t number = number_of(AR, KEY, (uint64_t)plain_number(record, 5, KEY));
         uint8_t *mark = &marks[number % MARKS], print = (uint8_t)(1 + number / MARKS % PRINTS);
         count += number <= greatest && *mark != 0 && (*mark == print || *mark == PRINTS + 1);
         *mark = *mark == 0 || *mark == print ? print : PRINTS + 1;
