@@ -128,8 +128,11 @@ fn served_from<'a>(bundle: &'a [u8], link: Link, table: u32, r: &'a [u8], from: 
         let Step::Whole(t, start, next) = here else {
             return bundle.len();
         };
-        if serves_it(link, table, r, t, &bundle[start..next]) {
-            return at;
+        // the table first: most records are of another, and are passed without a call
+        if t == link.wants {
+            if serves_it(link, table, r, t, &bundle[start..next]) {
+                return at;
+            }
         }
         at = next;
     }

@@ -3,15 +3,16 @@
 -- Assumes nothing.
 use Prim.Native.Nat.{ℕ, _+_, _-_}
 use mathlib.Core.Path.{_≡_, sym, _∙_}
-use mathlib.Core.Bool.{_||_}
+use mathlib.Core.Bool.{false}
 use native.Mathlib.Omega.{arith}
 use lib.ListN.{length, drop}
 use borrow.Author.Needs.{needs}
 use Rattle.common.specs.Lists.{any}
 use Rattle.common.proofs.Lists.{at-any}
-use Rattle.bundle.specs.Records.{rec, noRec, recordsOf}
+use Rattle.bundle.specs.Records.{rec, noRec, between, recordsOf}
 use Rattle.bundle.specs.Links.{serves}
 use Rattle.bundle.proofs.Here.{Here, Stands, stands, over-there, over-nil}
+use Rattle.bundle.proofs.PassLaws.{not-wanted}
 use Rattle.bundle.proofs.HintedPlaces.{place-here}
 use Rattle.bundle.proofs.links.served_from.Statement.{statement}
 use Rattle.bundle.proofs.links.served_from.Tie as tie
@@ -41,13 +42,14 @@ loop-holds c =
     let h = place-here (a .bundle .now) (a .from) (c .before .before .pre) in
     (h .0, h .1, λ e. let z : h .0 ≡ 0 = omega (arith, h .1 .counted) in rw z)
 
--- where none stood before it, it decides or those after it do
-turn : (c : tie.After-serves-it Inv-loop μ-loop) → let l = place (c .before .before) in
-    let a = l .before .before .before .args in
+-- a record that does not serve leaves it to those after it
+passed : (k : Known) → let g = k .before .here .given .0 in
+    let a = place k .before .before .before .args in
     let p = serves (a .link) (rec (a .table) (a .r .now)) in
-    a .from ≡ 0 → any p (recordsOf (a .bundle .now)) ≡ (c .serves-it .result || any p (drop (l .loop .inv .0 + 1) (recordsOf (a .bundle .now))))
+    false ≡ p (rec (g .0) (between (g .1 .0) (g .1 .1 .0) (a .bundle .now))) → a .from ≡ 0
+    → any p (recordsOf (a .bundle .now)) ≡ any p (drop (place k .loop .inv .0 + 1) (recordsOf (a .bundle .now)))
 unfolding any
-turn c e = let k = c .before .before in place k .loop .inv .2 e ∙ rw (found k .cons, c .serves-it .ensures)
+passed k q e = place k .loop .inv .2 e ∙ rw (found k .cons, ← q)
 
 returns : tie.Need-returns Inv-loop μ-loop
 unfolding any
@@ -57,20 +59,34 @@ returns c =
     let o = over-nil _ _ _ (i .1) (over-there _ _ (f .step-at .result) (c .match .keys2) (f .step-at .ensures)) in
     ((λ l. absurd (omega arith)), λ l e. i .2 e ∙ rw o)
 
+abbrev known : tie.After-serves-it Inv-loop μ-loop → Known
+known c = c .before .before .before .before
+
 returns-2 : tie.Need-returns-2 Inv-loop μ-loop
 returns-2 c =
     let v = c .before in
-    let k = v .before .before in
+    let k = known v in
     let w = found k in
     let i = place k .loop .inv in (
-      (λ l. ((i .0, w .place), at-any _ noRec _ (i .0) (w .below) (rw (w .at) (sym (v .serves-it .ensures) ∙ c .if1 .taken)))),
+      (λ l. ((i .0, w .place), at-any _ noRec _ (i .0) (w .below) (rw (w .at) (sym (v .serves-it .ensures) ∙ c .if2 .taken)))),
       λ l e. absurd (omega (arith, w .starts, w .ends, w .inside)),
     )
+
+-- the record is of the table that is wanted and does not serve, or it is of another
+loop-again : tie.Need-loop-again Inv-loop μ-loop
+loop-again c =
+    let k = known (c .before) in
+    (place k .loop .inv .0 + 1, found k .then, passed k (sym (c .if2 .left) ∙ c .before .serves-it .ensures))
+
+loop-again-2 : tie.Need-loop-again-2 Inv-loop μ-loop
+loop-again-2 c =
+    let k = c .before .before in
+    (place k .loop .inv .0 + 1, found k .then, passed k (not-wanted _ _ _ (c .if1 .left)))
 
 pub served-from-spec : {M : Type 1} → statement M
 served-from-spec =
     tie.close (tie.spec
-    Inv-loop μ-loop loop-holds (λ c κs. search needs) (λ c. search needs) returns (λ c. found c .ends)
-    (λ c. omega (arith, found c .ends, found c .inside)) (λ c. found c .inside) (λ c κs. search needs) returns-2
-    (λ c. let w = found (c .before .before .before) in omega (arith, w .starts, w .ends, w .inside))
-    (λ c. let k = c .before .before .before in (place k .loop .inv .0 + 1, found k .then, λ e. turn (c .before) e ∙ rw (c .if1 .left))))
+    Inv-loop μ-loop loop-holds (λ c κs. search needs) (λ c. search needs) returns (λ c. found (c .before .before) .ends)
+    (λ c. let w = found (c .before .before) in omega (arith, w .ends, w .inside)) (λ c. found (c .before .before) .inside) (λ c κs. search needs) returns-2
+    (λ c. let w = found (known (c .before)) in omega (arith, w .starts, w .ends, w .inside)) loop-again
+    (λ c. let w = found (c .before .before) in omega (arith, w .starts, w .ends, w .inside)) loop-again-2)
