@@ -4,6 +4,7 @@ pub mod books;
 pub mod breakage;
 pub mod cards;
 pub mod corpus;
+pub mod crowded;
 pub mod damage;
 pub mod drafts;
 pub mod histories;

@@ -10,6 +10,7 @@ use crate::bundle::LONGEST_BUNDLE;
 use crate::generate::books::{book_at_the_bound, sale_number, sound_book, BookDefect};
 use crate::generate::breakage::{every_breakage, Breakage};
 use crate::generate::corpus::{every_row, Corpus};
+use crate::generate::crowded::Crowded;
 use crate::generate::damage::with_broken_field;
 use crate::generate::drafts::{assemble, Draft};
 use crate::generate::histories::{any_bundle, drawn_bundles, drawn_step};
@@ -22,6 +23,8 @@ use crate::question::{
     cards_of, Leg, Question, CARD_SLOTS, LARGEST_PLAIN_FARE, LEG_SLOTS, MOST_PERSONS,
 };
 
+/// The last of so many verdict cases judges a crowded bundle as well.
+const CROWDED_ONE_IN: u64 = 8;
 const QUESTIONS_PER_BUNDLE: u64 = 12;
 const STEPS_PER_BOOK: u64 = 8;
 const BOOKS_PER_KIND: u64 = 4;
@@ -85,7 +88,10 @@ impl Cases {
             None => self.corpus.bundle(cheap_index(turn)),
         };
         bench.ask(&Call::of(Name::Verdict), &Lent::of(&bundle, &[]))?;
-        Ok(())
+        match (turn / CROWDED_ONE_IN, turn % CROWDED_ONE_IN) {
+            (turn, rest) if rest == CROWDED_ONE_IN - 1 => crowded(bench, random, turn),
+            _ => Ok(()),
+        }
     }
 
     fn broken_row(&self, random: &mut Random, turn: u64) -> Vec<u8> {
@@ -119,6 +125,14 @@ fn sized(random: &mut Random, turn: u64) -> Option<Vec<u8>> {
         _ => (),
     }
     Some(bundle)
+}
+
+fn crowded(bench: &mut Bench, random: &mut Random, turn: u64) -> io::Result<()> {
+    let crowded = Crowded::in_turn(random, turn);
+    let lent = Lent::of(&crowded.bundle, &[]);
+    let judged = bench.ask_held(&Call::of(Name::Verdict), &lent, &[])?;
+    bench.coverage.note_crowded(&crowded, &judged.second);
+    Ok(())
 }
 
 fn fares(bench: &mut Bench, random: &mut Random) -> io::Result<()> {

@@ -11,6 +11,7 @@ use crate::cards::CardUse;
 use crate::fare::{largest_part, priced_legs, PricedLeg, Source};
 use crate::generate::cards::{Slots, PAIRS_OF_SLOTS};
 use crate::generate::corpus::every_row;
+use crate::generate::crowded::{Crowded, Length, Order};
 use crate::generate::resent::Change;
 use crate::layout::{co, Table};
 use crate::question::{Question, CARD_SLOTS, LARGEST_CARD, LEG_SLOTS, NO_CARDS};
@@ -18,6 +19,8 @@ use crate::rounding::{Reduction, Rounding};
 
 const ANSWERED: &str = "answered";
 const LINK: &str = "7, detail";
+const CROWDED_KEY: &str = "many, 6 of";
+const CROWDED_LINK: &str = "many, 7, detail";
 const UNREAD: &str = "15, field";
 const OUTCOME: &str = "outcome";
 const CO_ROUNDING: &str = "rounding by CO";
@@ -79,6 +82,25 @@ impl Coverage {
 
     pub fn note_malformed(&mut self, kind: &str) {
         self.meet(MALFORMED, kind);
+    }
+
+    /// By its length, and by the order of its records.
+    pub fn note_crowded(&mut self, crowded: &Crowded, answer: &Answer) {
+        let told = match answer.number {
+            0 => ANSWERED.to_string(),
+            number => number.to_string(),
+        };
+        let length = Length::of(&crowded.bundle);
+        self.meet(&crowded_group(length.word()), &told);
+        self.meet(&crowded_group(crowded.order.word()), &told);
+        match answer.number {
+            6 => {
+                let records = readable_records(&crowded.bundle);
+                self.meet(CROWDED_KEY, records[answer.place as usize].table.mark());
+            }
+            7 => self.meet(CROWDED_LINK, answer.detail),
+            _ => (),
+        }
     }
 
     /// A book with parts at the bound of so many cards, and its total.
@@ -305,6 +327,10 @@ fn resent_group(group: &str, is_cancelled: bool) -> String {
     format!("{group}, {first}")
 }
 
+fn crowded_group(word: &str) -> String {
+    format!("many, {word}")
+}
+
 fn field_group(table: Table) -> String {
     format!("4 in {}, field", table.mark())
 }
@@ -339,6 +365,7 @@ fn numbers_of(name: Name) -> &'static [u64] {
 /// All that a full run must meet, in the order of the table.
 fn every_point() -> Vec<Point> {
     let mut groups = groups_of_numbers();
+    groups.extend(groups_of_crowds());
     groups.extend(groups_of_histories());
     groups.extend(groups_of_pricing());
     groups.extend(groups_of_cards());
@@ -369,6 +396,16 @@ fn groups_of_numbers() -> Vec<Group> {
     groups.push(group(LINK, &[1, 2, 3, 4]));
     groups.push(group(UNREAD, &co::UNREAD_CONDITIONS));
     groups.push(group(OUTCOME, &OUTCOMES));
+    groups
+}
+
+fn groups_of_crowds() -> Vec<Group> {
+    let lengths = Length::ALL.map(Length::word);
+    let words = lengths.into_iter().chain(Order::ALL.map(Order::word));
+    let told = |word| group(&crowded_group(word), &[ANSWERED, "5", "6", "7"]);
+    let mut groups: Vec<Group> = words.map(told).collect();
+    groups.push(group(CROWDED_KEY, &Table::ALL.map(Table::mark)));
+    groups.push(group(CROWDED_LINK, &[1, 2, 3, 4]));
     groups
 }
 
@@ -428,6 +465,7 @@ fn groups_of_arguments() -> Vec<Group> {
 #[cfg(test)]
 mod tests {
     use super::*;
+    use crate::generate::drafts::{assemble, Draft};
     use std::collections::BTreeSet;
 
     #[test]
@@ -448,6 +486,27 @@ mod tests {
         assert!(!coverage.gaps().contains(&"total: 21".to_string()));
         assert!(coverage.gaps().contains(&"cancel: 21".to_string()));
         assert!(coverage.table().contains("21 x1"));
+    }
+
+    #[test]
+    fn a_crowd_is_met_by_its_length_and_its_order() {
+        let mut coverage = Coverage::default();
+        let crowded = Crowded {
+            order: Order::Reversed,
+            bundle: assemble(&[Draft::plain(Table::Co), Draft::plain(Table::Co)]),
+        };
+        let repeated = Answer {
+            number: 6,
+            place: 1,
+            ..Answer::default()
+        };
+        coverage.note_crowded(&crowded, &repeated);
+        let gaps = coverage.gaps();
+        let is_gap = |words: &str| gaps.contains(&words.to_string());
+        assert!(!is_gap("many, short: 6") && is_gap("many, long: 6"));
+        assert!(!is_gap("many, reversed: 6") && is_gap("many, by table: 6"));
+        assert!(!is_gap("many, 6 of: CO") && is_gap("many, 6 of: AR"));
+        assert!(is_gap("many, short: answered") && is_gap("many, 7, detail: 1"));
     }
 
     #[test]

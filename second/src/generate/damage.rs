@@ -210,7 +210,7 @@ fn put_in(random: &mut Random, drafts: &mut Vec<Draft>, draft: Draft) -> usize {
     place
 }
 
-fn drawn_of_house(random: &mut Random, drafts: &[Draft], table: Table) -> Draft {
+pub fn drawn_of_house(random: &mut Random, drafts: &[Draft], table: Table) -> Draft {
     let habits = match drafts.first() {
         Some(first) => Habits::of_house(random, first.number(TRANSFEROR)),
         None => Habits::drawn(random),
@@ -247,7 +247,7 @@ fn some_code(random: &mut Random, drafts: &mut Vec<Draft>) -> u64 {
     drafts[place].number(re::CODE)
 }
 
-fn unused_offer(random: &mut Random, drafts: &[Draft]) -> u64 {
+pub fn unused_offer(random: &mut Random, drafts: &[Draft]) -> u64 {
     loop {
         let offer = random.between(1, 99_999);
         let is_used = |draft: &Draft| draft.table != Table::Re && draft.number(co::OFFER) == offer;
@@ -257,7 +257,7 @@ fn unused_offer(random: &mut Random, drafts: &[Draft]) -> u64 {
     }
 }
 
-fn unused_code(random: &mut Random, drafts: &[Draft]) -> u64 {
+pub fn unused_code(random: &mut Random, drafts: &[Draft]) -> u64 {
     loop {
         let code = random.between(1, 999);
         let is_used = |draft: &Draft| match draft.table {
@@ -276,7 +276,7 @@ fn two_railways(random: &mut Random) -> (u64, u64) {
     (railway, another(random, railway, 9999))
 }
 
-fn another(random: &mut Random, number: u64, most: u64) -> u64 {
+pub fn another(random: &mut Random, number: u64, most: u64) -> u64 {
     loop {
         let other = random.between_with_ends(1, most);
         if other != number {
