@@ -2,7 +2,8 @@
 // the record is looked for by, so that hints for several numbers can stand behind each other.
 ghost use mathlib.Core.Path.{_≡_};
 ghost use lib.ListN.{getD};
-ghost use Rattle.bundle.specs.Hints.{hintNumber, nameOf, placeIn, KeepsHints};
+ghost use Rattle.bundle.specs.Hints.{hintNumber, nameOf, placeIn, Hinted, KeepsHints};
+use super::walk::Step;
 
 // A place is below this.
 const PLACES: u64 = 2097152;
@@ -75,12 +76,28 @@ pub fn put(hints: &mut [u32], slot: usize, number: u64, place: usize)
 }
 
 // Keeps where a record stands, unless a record that is looked for by the same is kept already.
-pub fn note(hints: &mut [u32], table: u32, body: &[u8], at: usize)
+fn note(hints: &mut [u32], table: u32, body: &[u8], at: usize)
     ensures { λ _. ⌜ KeepsHints at (now (hints .entry)) (now (hints .exit)) ⌝ }
 {
     let number = number(table, table == layout::RE, table, body);
     let slot = slot_of(hints, number);
     if place_at(hints, slot) == 0 {
         put(hints, slot, number, at);
+    }
+}
+
+// Notes each record of a bundle.
+pub fn note_all(bundle: &[u8], hints: &mut [u32])
+    requires { ⌜ Hinted (now bundle) (now hints) ⌝ }
+    ensures { λ _. ⌜ Hinted (now (bundle .entry)) (now (hints .exit)) ⌝ }
+{
+    let mut at = 0;
+    loop {
+        let here = super::walk::step_at(bundle, at);
+        let Step::Whole(table, start, next) = here else {
+            return;
+        };
+        note(hints, table, &bundle[start..next], at);
+        at = next;
     }
 }

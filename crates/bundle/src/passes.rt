@@ -9,9 +9,8 @@ use super::Judgement;
 use super::walk::Step;
 
 // Each record by itself: 2, then 3, then 4.
-pub fn first_pass(bundle: &[u8], hints: &mut [u32]) -> Judgement
-    requires { ⌜ Hinted (now bundle) (now hints) ⌝ }
-    ensures { λ r. ⌜ (r ≡ judged (firstFault (firstPass (now (bundle .entry)))) (length (recordsOf (now (bundle .entry))))) × Hinted (now (bundle .entry)) (now (hints .exit)) ⌝ }
+pub fn first_pass(bundle: &[u8]) -> Judgement
+    ensures { λ r. ⌜ r ≡ judged (firstFault (firstPass (now (bundle .entry)))) (length (recordsOf (now (bundle .entry)))) ⌝ }
 {
     let rows = layout::rows::all();
     let n = bundle.len();
@@ -34,7 +33,6 @@ pub fn first_pass(bundle: &[u8], hints: &mut [u32]) -> Judgement
                 if field != 0 {
                     return Judgement::Refused(common::refuse(4, i, field));
                 }
-                super::hints::note(hints, table, &bundle[start..next], at);
                 at = next;
                 i += 1;
             }

@@ -56,9 +56,12 @@ fn in_passes(bundle: &[u8], marks: &mut [u8], hints: &mut [u32]) -> Judgement
     requires { ⌜ (length (now bundle) ≤ limit) × Hinted (now bundle) (now hints) ⌝ }
     ensures { λ r. ⌜ r ≡ verdictOf (now (bundle .entry)) ⌝ }
 {
-    let first = super::passes::first_pass(bundle, hints);
+    let first = super::passes::first_pass(bundle);
     match first {
         Judgement::Refused(why) => Judgement::Refused(why),
-        Judgement::Accepted(_) => super::passes::second_pass(bundle, marks, hints),
+        Judgement::Accepted(_) => {
+            super::hints::note_all(bundle, hints);
+            super::passes::second_pass(bundle, marks, hints)
+        }
     }
 }
