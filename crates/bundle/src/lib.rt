@@ -25,5 +25,9 @@ pub fn verdict(bundle: &[u8]) -> Judgement
     if LIMIT < bundle.len() {
         return Judgement::Refused(common::refuse(1, 0, 0));
     }
-    room::judge(bundle)
+    let first = passes::first_pass(bundle);
+    match first {
+        Judgement::Refused(why) => Judgement::Refused(why),
+        Judgement::Accepted(records) => room::second_pass(bundle, records),
+    }
 }

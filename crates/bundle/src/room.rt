@@ -1,67 +1,49 @@
-// The room that the passes are lent to keep things in mind: the more bytes a bundle has, the more. Nothing is asked of what stands there at first but that
-// each hint is the start of the bundle; to clear much room would cost a short bundle more than it saves.
+// The room that the second pass is lent to keep things in mind: the more records there are, the more, as to clear much room would cost a few records more
+// than it saves. Nothing is asked of what stands there at first but that each hint is the start of the bundle.
 ghost use mathlib.Core.Path.{_≡_};
-ghost use Prim.Native.Nat.{_≤_};
 ghost use lib.ListN.{length};
-ghost use Rattle.bundle.specs.Verdict.{limit, verdictOf};
+ghost use Rattle.common.specs.Checks.{firstFault};
+ghost use Rattle.bundle.specs.Records.{recordsOf};
+ghost use Rattle.bundle.specs.Verdict.{judged, secondPass};
 ghost use Rattle.bundle.specs.Hints.{Hinted};
 use super::Judgement;
 
-// The lengths of bundles up to which little room is lent, and some.
-const SHORT: usize = 4096;
+// Up to so many records have little room, and more of it.
+const FEW: usize = 32;
 
-const MIDDLING: usize = 65536;
+const SOME: usize = 256;
 
-pub fn judge(bundle: &[u8]) -> Judgement
-    requires { ⌜ length (now bundle) ≤ limit ⌝ }
-    ensures { λ r. ⌜ r ≡ verdictOf (now (bundle .entry)) ⌝ }
+const MANY: usize = 2048;
+
+// The second pass over so many records, in room for them. An array's length is part of its type, so that each size is written out.
+pub fn second_pass(bundle: &[u8], records: usize) -> Judgement
+    ensures { λ r. ⌜ r ≡ judged (firstFault (secondPass (recordsOf (now (bundle .entry))))) (length (recordsOf (now (bundle .entry)))) ⌝ }
 {
-    if bundle.len() <= SHORT {
-        return with_little(bundle);
+    if records <= FEW {
+        let mut marks = [0u8; 256];
+        let mut hints = [0u32; 128];
+        return noted(bundle, &mut marks, &mut hints);
     }
-    if bundle.len() <= MIDDLING {
-        return with_some(bundle);
+    if records <= SOME {
+        let mut marks = [0u8; 2048];
+        let mut hints = [0u32; 1024];
+        return noted(bundle, &mut marks, &mut hints);
     }
-    with_much(bundle)
-}
-
-fn with_little(bundle: &[u8]) -> Judgement
-    requires { ⌜ length (now bundle) ≤ limit ⌝ }
-    ensures { λ r. ⌜ r ≡ verdictOf (now (bundle .entry)) ⌝ }
-{
-    let mut marks = [0u8; 256];
-    let mut hints = [0u32; 128];
-    in_passes(bundle, &mut marks, &mut hints)
-}
-
-fn with_some(bundle: &[u8]) -> Judgement
-    requires { ⌜ length (now bundle) ≤ limit ⌝ }
-    ensures { λ r. ⌜ r ≡ verdictOf (now (bundle .entry)) ⌝ }
-{
-    let mut marks = [0u8; 4096];
-    let mut hints = [0u32; 2048];
-    in_passes(bundle, &mut marks, &mut hints)
-}
-
-fn with_much(bundle: &[u8]) -> Judgement
-    requires { ⌜ length (now bundle) ≤ limit ⌝ }
-    ensures { λ r. ⌜ r ≡ verdictOf (now (bundle .entry)) ⌝ }
-{
+    if records <= MANY {
+        let mut marks = [0u8; 8192];
+        let mut hints = [0u32; 4096];
+        return noted(bundle, &mut marks, &mut hints);
+    }
     let mut marks = [0u8; 65536];
     let mut hints = [0u32; 12288];
-    in_passes(bundle, &mut marks, &mut hints)
+    noted(bundle, &mut marks, &mut hints)
 }
 
-fn in_passes(bundle: &[u8], marks: &mut [u8], hints: &mut [u32]) -> Judgement
-    requires { ⌜ (length (now bundle) ≤ limit) × Hinted (now bundle) (now hints) ⌝ }
-    ensures { λ r. ⌜ r ≡ verdictOf (now (bundle .entry)) ⌝ }
+// The second pass, once it is noted where each record stands.
+fn noted(bundle: &[u8], marks: &mut [u8], hints: &mut [u32]) -> Judgement
+    requires { ⌜ Hinted (now bundle) (now hints) ⌝ }
+    ensures { λ r. ⌜ r ≡ judged (firstFault (secondPass (recordsOf (now (bundle .entry))))) (length (recordsOf (now (bundle .entry)))) ⌝ }
 {
-    let first = super::passes::first_pass(bundle);
-    match first {
-        Judgement::Refused(why) => Judgement::Refused(why),
-        Judgement::Accepted(_) => {
-            super::hints::note_all(bundle, hints);
-            super::passes::second_pass(bundle, marks, hints)
-        }
-    }
+    super::hints::note_all(bundle, hints);
+    super::passes::second_pass(bundle, marks, hints)
 }

@@ -1,9 +1,0 @@
--- `bundle::room::with_some` meets its contract.
--- Assumes nothing.
-use borrow.Author.Needs.{needs}
-use Rattle.bundle.proofs.HintedPlaces.{no-hints-yet}
-use Rattle.bundle.proofs.room.with_some.Statement.{statement}
-use Rattle.bundle.proofs.room.with_some.Tie as tie
-
-pub with-some-spec : {M : Type 1} → statement M
-with-some-spec = tie.close (tie.spec (λ c. search needs) (λ c. search needs) (λ c κs. (c .before .before .before .pre, no-hints-yet _ 2048)) (λ c. c .before .before .in-passes .ensures))
