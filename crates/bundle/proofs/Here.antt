@@ -7,7 +7,7 @@ use mathlib.Core.List.{List, [], _∷_}
 use native.Mathlib.Omega.{arith}
 use native.Mathlib.Nat.{add-zero}
 use native.Mathlib.Numerals.{add-one}
-use lib.ListN.{length, getD, drop, length-drop, List·getD-eq-default}
+use lib.ListN.{length, getD, drop, length-drop, drop-of-length-le, List·getD-eq-default}
 use lib.Seq.{drop-drop, getD-drop}
 use Rattle.common.proofs.Tests.{side}
 use Rattle.bundle.specs.Records.{rec, noRec, stepOf, ifWhole, between, recordsFrom, restFrom, recordsOf, restOf}
@@ -17,7 +17,7 @@ use denote.Enum.Declared.{tagOf}
 use Rattle.bundle.proofs.walk.Step.{the-type}
 use Rattle.bundle.specs.declared.walk.Step.{Step}
 use Rattle.bundle.specs.declared.walk.Step.the-variants.{Unknown, Short, Whole}
-use Rattle.bundle.proofs.Steps.{Lies, whole-lies}
+use Rattle.bundle.proofs.Steps.{Lies, whole-lies, nothing-there}
 
 -- at the byte p of the bundle s the record starts that is counted j, or the records end
 pub record Here (s : List ℕ) (p j : ℕ) : Type 0 where
@@ -82,6 +82,9 @@ places-length s = places-alike (length s) 0 s
 pub data Over (s : List ℕ) : Type 0 where
   unknown : stepOf s ≡ Unknown → Over s
   short : stepOf s ≡ Short → Over s
+
+pub over-at-end : (s : List ℕ) (p : ℕ) → length s ≤ p → Over (drop p s)
+over-at-end s p l = unknown (rw (drop-of-length-le s l) nothing-there)
 
 pub records-over : (k : ℕ) (s : List ℕ) → Over s → recordsFrom k s ≡ []
 unfolding recordsFrom

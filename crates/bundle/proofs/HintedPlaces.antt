@@ -13,7 +13,7 @@ use Rattle.common.proofs.Tests.{never}
 use Rattle.bundle.specs.Records.{Rec, rec, noRec, ifWhole, between, recordsOf}
 use Rattle.bundle.specs.Links.{serves}
 use Rattle.bundle.specs.Helpers.{stepAt, placesOf}
-use Rattle.bundle.specs.Hints.{IsPlace, placeIn, Hinted, KeepsHints, servesAt}
+use Rattle.bundle.specs.Hints.{IsPlace, placeLimit, placeIn, Hinted, KeepsHints, servesAt}
 use Rattle.bundle.specs.declared.links.Link.{Link}
 use Rattle.bundle.specs.declared.walk.Step.{Step}
 use Rattle.bundle.specs.declared.walk.Step.the-variants.{Unknown, Short, Whole}
@@ -36,10 +36,10 @@ pub no-hints-yet : (s : List ℕ) (n : ℕ) → Hinted s (replicate n 0)
 no-hints-yet s n k = rw (getD-zeros n k) (start-is-place s)
 
 -- and a hint that is put keeps the others.
-pub hint-put : (hints : List ℕ) (k p tag : ℕ) → p < 2097152 → KeepsHints p hints (set hints k (tag * 2097152 + p))
+pub hint-put : (hints : List ℕ) (k p tag : ℕ) → p < placeLimit → KeepsHints p hints (set hints k (tag * placeLimit + p))
 hint-put hints k p tag l s h f j =
-    let e : placeIn (tag * 2097152 + p) ≡ p = omega arith in
-    ⊎-elim (λ q. rw (q .1, e) h) (λ q. rw q (f j)) (after-store hints k j (tag * 2097152 + p))
+    let e : placeIn (tag * placeLimit + p) ≡ p = omega arith in
+    ⊎-elim (λ q. rw (q .1, e) h) (λ q. rw q (f j)) (after-store hints k j (tag * placeLimit + p))
 
 -- WHETHER A RECORD SERVES AT A PLACE, by the step that was made there;
 module _ (s : List ℕ) (l : Link) (r : Rec) (p : ℕ) where

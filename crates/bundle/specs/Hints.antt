@@ -18,9 +18,12 @@ use Rattle.bundle.specs.declared.links.Link.{Link}
 abbrev pub IsPlace : List ℕ → ℕ → Type 0
 IsPlace s p = (i : ℕ) × (getD (placesOf s) i 0 ≡ p)
 
--- a hint is such a place, and above it a tag of the number that the record is looked for by
+-- a hint is such a place, below this, and above it a tag of the number that the record is looked for by
+abbrev pub placeLimit : ℕ
+placeLimit = 2097152
+
 abbrev pub placeIn : ℕ → ℕ
-placeIn hint = hint % 2097152
+placeIn hint = hint % placeLimit
 
 abbrev pub Hinted : List ℕ → List ℕ → Type 0
 Hinted s hints = (k : ℕ) → IsPlace s (placeIn (getD hints k 0))
@@ -40,8 +43,9 @@ hintNumber wants coded t body = rankOf (nameOf coded t body) + wants * tableStep
 unfoldable pub servesAt : List ℕ → Link → Rec → ℕ → Bool
 servesAt s l r p = ifWhole (stepAt s p) false (λ t start next. serves l r (rec t (between start next s)))
 
--- what a search from a place on tells: where a record stands that serves, or the bundle's length, and then none serves if it began at the start
-abbrev pub SearchTells : List ℕ → Link → Rec → ℕ → ℕ → Type 0
-SearchTells s l r from p =
+-- what a search from a place on and before another tells: where a record stands that serves, or the bundle's length, and then none serves if it went
+-- through the whole bundle
+abbrev pub SearchTells : List ℕ → Link → Rec → ℕ → ℕ → ℕ → Type 0
+SearchTells s l r from end p =
     (p < length s → IsPlace s p × (any (serves l r) (recordsOf s) ≡ true)) ×
-    (length s ≤ p → from ≡ 0 → any (serves l r) (recordsOf s) ≡ false)
+    (length s ≤ p → from ≡ 0 → length s ≤ end → any (serves l r) (recordsOf s) ≡ false)

@@ -1,6 +1,6 @@
 // Links from a record to another.
 ghost use mathlib.Core.Path.{_≡_};
-ghost use lib.ListN.{getD};
+ghost use lib.ListN.{length, getD};
 ghost use Rattle.common.specs.Lists.{any};
 ghost use Rattle.bundle.specs.Records.{recordsOf, rec};
 ghost use Rattle.bundle.specs.Links.{link as linkOf, linkRows, noLink, isAsked, railwayServes, joins, serves, lacks, missingLink};
@@ -25,6 +25,9 @@ const BY_OFFER: u32 = 1;
 const BY_OFFER_AND_RAILWAY: u32 = 2;
 
 pub const LINKS: usize = 5;
+
+// How many bytes are a little way: few beside a bundle for which it matters, so that no link takes much longer than by the walk from the start.
+const AHEAD: usize = 32768;
 
 fn row(table: u32, flag: u32, wants: u32, join: u32, detail: usize) -> Link
     ensures { λ r. ⌜ r ≡ linkOf table flag wants join detail ⌝ }
@@ -117,13 +120,20 @@ fn serves_at<'a>(bundle: &'a [u8], link: Link, table: u32, r: &'a [u8], place: u
     serves_it(link, table, r, t, &bundle[start..next])
 }
 
-// The place of the first such record from a place on, the bundle's length where there is none.
-fn served_from<'a>(bundle: &'a [u8], link: Link, table: u32, r: &'a [u8], from: usize) -> usize
+// The place of the first such record from a place on that starts before another, the bundle's length where there is none.
+fn served_between<'a>(
+    bundle: &'a [u8],
+    link: Link,
+    table: u32,
+    r: &'a [u8],
+    from: usize,
+    end: usize,
+) -> usize
     requires { ⌜ IsPlace (now bundle) from ⌝ }
-    ensures { λ p. ⌜ SearchTells (now (bundle .entry)) link (rec table (now (r .entry))) from p ⌝ }
+    ensures { λ p. ⌜ SearchTells (now (bundle .entry)) link (rec table (now (r .entry))) from end p ⌝ }
 {
     let mut at = from;
-    loop {
+    while at < end {
         let here = super::walk::step_at(bundle, at);
         let Step::Whole(t, start, next) = here else {
             return bundle.len();
@@ -136,18 +146,19 @@ fn served_from<'a>(bundle: &'a [u8], link: Link, table: u32, r: &'a [u8], from: 
         }
         at = next;
     }
+    bundle.len()
 }
 
-// The place of such a record: from where one of its kind was last found, and then from the start.
-fn served_around<'a>(bundle: &'a [u8], link: Link, table: u32, r: &'a [u8], last: usize) -> usize
+// The place of such a record: a little way on from where one of its kind was last found, and then from the start.
+fn served<'a>(bundle: &'a [u8], link: Link, table: u32, r: &'a [u8], last: usize) -> usize
     requires { ⌜ IsPlace (now bundle) last ⌝ }
-    ensures { λ p. ⌜ SearchTells (now (bundle .entry)) link (rec table (now (r .entry))) 0 p ⌝ }
+    ensures { λ p. ⌜ SearchTells (now (bundle .entry)) link (rec table (now (r .entry))) 0 (length (now (bundle .entry))) p ⌝ }
 {
-    let place = served_from(bundle, link, table, r, last);
+    let place = served_between(bundle, link, table, r, last, last + AHEAD);
     if place < bundle.len() {
         return place;
     }
-    served_from(bundle, link, table, r, 0)
+    served_between(bundle, link, table, r, 0, bundle.len())
 }
 
 // Whether some record of the bundle is one that a record of a table wants by link k. It is looked for first where a hint says.
@@ -161,7 +172,7 @@ fn is_served<'a>(bundle: &'a [u8], hints: &mut [u32], table: u32, r: &'a [u8], k
     if serves_at(bundle, link, table, r, super::hints::place_at(hints, slot)) {
         return true;
     }
-    let place = served_around(bundle, link, table, r, super::hints::place_at(hints, k));
+    let place = served(bundle, link, table, r, super::hints::place_at(hints, k));
     if bundle.len() <= place {
         return false;
     }

@@ -1,6 +1,7 @@
 -- `bundle::links::is_served` meets its contract.
 -- Assumes nothing.
 use mathlib.Core.Path.{refl, sym, _∙_}
+use native.Mathlib.Omega.{arith}
 use borrow.Author.Needs.{needs}
 use Rattle.bundle.proofs.HintedPlaces.{served-there}
 use Rattle.bundle.proofs.links.is_served.Statement.{statement}
@@ -31,7 +32,7 @@ returns-2 : tie.Need-returns-2
 returns-2 c =
     let a = c .before in
     let l = looked (a .before) in
-    (sym (rw (← l .link-at .ensures) (a .served-around .ensures .1 (c .if2 .taken) refl)), start l .pre)
+    (sym (rw (← l .link-at .ensures) (a .served .ensures .1 (c .if2 .taken) refl (omega arith))), start l .pre)
 
 -- a record found, whose place is a hint from now on
 returns-3 : tie.Need-returns-3
@@ -42,7 +43,7 @@ returns-3 c =
     let a = e .before in
     let l = looked (a .before) in
     let s = start l .args .bundle .now in
-    let f = a .served-around .ensures .0 (e .if2 .left) in
+    let f = a .served .ensures .0 (e .if2 .left) in
     (sym (rw (← l .link-at .ensures) (f .1)), q .put2 .ensures s (f .0) (p .put .ensures s (f .0) (start l .pre)))
 
 pub is-served-spec : {M : Type 1} → statement M
