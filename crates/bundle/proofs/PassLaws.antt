@@ -23,6 +23,7 @@ use Rattle.bundle.specs.Keys.{otherTransferor, earlierOf}
 use Rattle.bundle.specs.Links.{links, linkRows, noLink, joins, serves, missingLink}
 use Rattle.bundle.specs.declared.links.Link.{Link}
 use Rattle.bundle.specs.Verdict.{limit, fieldChecks, endChecks, firstPass, recordChecks, secondPass, checks, judged, verdictOf}
+use Rattle.bundle.specs.Helpers.{firstTells, secondTells}
 use Rattle.bundle.specs.declared.Judgement.the-variants.{Accepted, Refused}
 use Rattle.bundle.specs.declared.walk.Step.the-variants.{Unknown, Short}
 use Rattle.bundle.proofs.Steps.{nothing-there}
@@ -132,12 +133,11 @@ module _ (s : List ℕ) (l : length s ≤ limit) where
   unfolding checks firstFault
   in-order = rw (le-ltb _ _ l) (fault-append (firstPass s) (secondPass (recordsOf s)))
 
-  pub by-first : (r : Refusal) → judged (firstFault (firstPass s)) (length (recordsOf s)) ≡ Refused r → verdictOf s ≡ Refused r
+  pub by-first : (r : Refusal) → firstTells s ≡ Refused r → verdictOf s ≡ Refused r
   unfolding verdictOf
   by-first r e = rw (in-order, is-fault (firstFault (firstPass s)) (length (recordsOf s)) r e)
 
-  pub by-second : (m : ℕ) → judged (firstFault (firstPass s)) (length (recordsOf s)) ≡ Accepted m
-      → verdictOf s ≡ judged (firstFault (secondPass (recordsOf s))) (length (recordsOf s))
+  pub by-second : (m : ℕ) → firstTells s ≡ Accepted m → verdictOf s ≡ secondTells s
   unfolding verdictOf
   by-second m e = rw (in-order, is-clean (firstFault (firstPass s)) (length (recordsOf s)) m e .0)
 

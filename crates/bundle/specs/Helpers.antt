@@ -7,10 +7,13 @@ use mathlib.Core.List.{List, [], _∷_}
 use lib.Dec.{eqb, leb}
 use lib.ListN.{length, getD, take, drop}
 use Rattle.common.specs.Lists.{same}
+use Rattle.common.specs.Checks.{firstFault}
 use Rattle.layout.specs.Company.{companyOf, isAllRailways}
 use Rattle.layout.specs.Fields.{railwayOf, holdsDay}
-use Rattle.bundle.specs.Records.{Rec, stepOf, ifWhole, between}
+use Rattle.bundle.specs.Records.{Rec, stepOf, ifWhole, between, recordsOf}
 use Rattle.bundle.specs.Choice.{isOf}
+use Rattle.bundle.specs.Verdict.{firstPass, secondPass, judged}
+use Rattle.bundle.specs.declared.Judgement.{Judgement}
 use Rattle.bundle.specs.declared.walk.Step.{Step}
 use Rattle.bundle.specs.declared.walk.Step.the-variants.{Unknown, Short, Whole}
 use Rattle.bundle.specs.declared.choice.Wanted.{Wanted}
@@ -59,3 +62,10 @@ firstGeneral none general f at = cond (eqb general none) (cond (eqb f 1) at none
 unfoldable pub onDayAt : List ℕ → ℕ → Wanted → Choice
 onDayAt s place w =
     cond (leb (length s) place) Nothing (cond (holdsDay (w .table) (bodyAt s place) (w .day)) (At place) NotThatDay)
+
+-- what each pass tells by itself
+abbrev pub firstTells : List ℕ → Judgement
+firstTells s = judged (firstFault (firstPass s)) (length (recordsOf s))
+
+abbrev pub secondTells : List ℕ → Judgement
+secondTells s = judged (firstFault (secondPass (recordsOf s))) (length (recordsOf s))

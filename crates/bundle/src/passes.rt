@@ -1,16 +1,13 @@
 // The two passes over a bundle's records.
 ghost use mathlib.Core.Path.{_≡_};
-ghost use lib.ListN.{length};
-ghost use Rattle.common.specs.Checks.{firstFault};
-ghost use Rattle.bundle.specs.Records.{recordsOf};
+ghost use Rattle.bundle.specs.Helpers.{firstTells, secondTells};
 ghost use Rattle.bundle.specs.Hints.{Hinted};
-ghost use Rattle.bundle.specs.Verdict.{judged, firstPass, secondPass};
 use super::Judgement;
 use super::walk::Step;
 
 // Each record by itself: 2, then 3, then 4.
 pub fn first_pass(bundle: &[u8]) -> Judgement
-    ensures { λ r. ⌜ r ≡ judged (firstFault (firstPass (now (bundle .entry)))) (length (recordsOf (now (bundle .entry)))) ⌝ }
+    ensures { λ r. ⌜ r ≡ firstTells (now (bundle .entry)) ⌝ }
 {
     let rows = layout::rows::all();
     let n = bundle.len();
@@ -47,7 +44,7 @@ const TABLES: usize = 4;
 // Each record beside the others: 5, then 6, then 7, before the next record.
 pub fn second_pass(bundle: &[u8], marks: &mut [u8], hints: &mut [u32]) -> Judgement
     requires { ⌜ Hinted (now bundle) (now hints) ⌝ }
-    ensures { λ r. ⌜ r ≡ judged (firstFault (secondPass (recordsOf (now (bundle .entry))))) (length (recordsOf (now (bundle .entry)))) ⌝ }
+    ensures { λ r. ⌜ r ≡ secondTells (now (bundle .entry)) ⌝ }
 {
     let transferor = super::keys::first_transferor(bundle);
     let mut tops = [0u64; TABLES];
