@@ -7,7 +7,6 @@ pub mod Faults
 pub mod Choice
 pub mod Chosen
 pub mod Helpers
-pub mod Seen
 pub mod Hints
 pub mod Samples
 pub mod Figures

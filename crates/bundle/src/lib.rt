@@ -8,7 +8,6 @@ mod keys;
 mod links;
 mod passes;
 mod room;
-mod seen;
 pub mod walk;
 
 // The verdict on a bundle: how many records it has, or the first fault.

@@ -38,16 +38,13 @@ pub fn first_pass(bundle: &[u8]) -> Judgement
     Judgement::Accepted(i)
 }
 
-// How many tables there are, each with a greatest number of its own.
-const TABLES: usize = 4;
-
 // Each record beside the others: 5, then 6, then 7, before the next record.
 pub fn second_pass(bundle: &[u8], marks: &mut [u8], hints: &mut [u32]) -> Judgement
     requires { ⌜ Hinted (now bundle) (now hints) ⌝ }
     ensures { λ r. ⌜ r ≡ secondTells (now (bundle .entry)) ⌝ }
 {
     let transferor = super::keys::first_transferor(bundle);
-    let mut tops = [0u64; TABLES];
+    let mut tops = [0u64; layout::TABLES as usize];
     let mut at = 0;
     let mut i = 0;
     let verdict = 'records: loop {
@@ -62,7 +59,7 @@ pub fn second_pass(bundle: &[u8], marks: &mut [u8], hints: &mut [u32]) -> Judgem
         let number = layout::fields::key_number(table, r);
         let mut p = 0;
         let mut j = 0;
-        if super::seen::is_new(&mut tops, marks, table, number) {
+        if seen::is_new(&mut tops, marks, table, number) {
             p = at;
             j = i;
         }

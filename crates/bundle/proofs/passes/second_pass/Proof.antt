@@ -19,7 +19,8 @@ use Rattle.bundle.specs.Keys.{clash, otherTransferor, earlierOf}
 use Rattle.bundle.specs.Links.{linkRows, noLink}
 use Rattle.bundle.specs.declared.links.Link.{Link}
 use Rattle.bundle.specs.Verdict.{secondPass}
-use Rattle.bundle.specs.Seen.{Seen, Tells}
+use Rattle.seen.specs.Seen.{Seen, Tells}
+use Rattle.seen.proofs.Laws.{new-tells}
 use Rattle.bundle.specs.Hints.{Hinted}
 use Rattle.bundle.specs.declared.Judgement.the-variants.{Refused}
 use Rattle.bundle.proofs.Here.{Here, Stands, here-start, stands, over-there, over-nil, over-count}
@@ -121,7 +122,9 @@ same-transferor n = transferor (own n .before) ∙ own n .if1 .left
 told : (n : New) → let k = known n in
     let o = place k in
     Tells (Seen (o .records .tops) (o .records .marks)) (Seen (n .is-new .last .0) (n .is-new .last .1 .0)) (lent k .table) (keyNumber (lent k .table) (lent k .body)) (n .is-new .result)
-told n = rw (← n .before .before .before .key-number .ensures) (n .is-new .ensures)
+told n =
+    let e = n .is-new .ensures in
+    rw (← n .before .before .before .key-number .ensures) (new-tells _ _ _ _ (e .0) (e .1 .0) (e .1 .1))
 
 -- a new number's record clashes with none; else the search begins at the first record
 loop-holds : tie.Need-loop-holds Inv-loop μ-loop Inv-records μ-records

@@ -1,9 +1,9 @@
--- `bundle::seen::is_clear` meets its contract.
+-- `seen::is_clear` meets its contract.
 -- Assumes nothing.
 use borrow.Author.Tests.{eq-eqb, ne-eqb}
-use Rattle.bundle.specs.Seen.{excludes}
-use Rattle.bundle.proofs.seen.is_clear.Statement.{statement}
-use Rattle.bundle.proofs.seen.is_clear.Tie as tie
+use Rattle.seen.specs.Seen.{excludes}
+use Rattle.seen.proofs.is_clear.Statement.{statement}
+use Rattle.seen.proofs.is_clear.Tie as tie
 
 pub is-clear-spec : {M : Type 1} → statement M
 unfolding excludes

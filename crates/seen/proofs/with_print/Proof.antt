@@ -1,9 +1,9 @@
--- `bundle::seen::with_print` meets its contract.
+-- `seen::with_print` meets its contract.
 -- Assumes nothing.
 use borrow.Author.Tests.{eq-eqb, ne-eqb}
-use Rattle.bundle.specs.Seen.{marked}
-use Rattle.bundle.proofs.seen.with_print.Statement.{statement}
-use Rattle.bundle.proofs.seen.with_print.Tie as tie
+use Rattle.seen.specs.Seen.{marked}
+use Rattle.seen.proofs.with_print.Statement.{statement}
+use Rattle.seen.proofs.with_print.Tie as tie
 
 pub with-print-spec : {M : Type 1} → statement M
 unfolding marked
