@@ -5,8 +5,10 @@ ghost use Rattle.bundle.specs.Helpers.{secondTells};
 ghost use Rattle.bundle.specs.Hints.{Hinted};
 use super::Judgement;
 
-// Up to so many records have little room, and up to so many some.
+// Up to so many records have little room, up to so many some, and up to so many more.
 const FEW: usize = 32;
+
+const SOME: usize = 256;
 
 const MANY: usize = 2048;
 
@@ -17,13 +19,16 @@ pub fn second_pass(bundle: &[u8], records: usize) -> Judgement
     if records <= FEW {
         return with_little(bundle);
     }
-    if records <= MANY {
+    if records <= SOME {
         return with_some(bundle);
+    }
+    if records <= MANY {
+        return with_more(bundle);
     }
     with_much(bundle)
 }
 
-// One function a size: the length of an array is part of its type, and three arrays in one function would each take stack of their own.
+// One function a size: the length of an array is part of its type, and the arrays of one function would each take stack of their own.
 fn with_little(bundle: &[u8]) -> Judgement
     ensures { λ r. ⌜ r ≡ secondTells (now (bundle .entry)) ⌝ }
 {
@@ -33,6 +38,14 @@ fn with_little(bundle: &[u8]) -> Judgement
 }
 
 fn with_some(bundle: &[u8]) -> Judgement
+    ensures { λ r. ⌜ r ≡ secondTells (now (bundle .entry)) ⌝ }
+{
+    let mut marks = [0u8; 2048];
+    let mut hints = [0u32; 1024];
+    noted(bundle, &mut marks, &mut hints)
+}
+
+fn with_more(bundle: &[u8]) -> Judgement
     ensures { λ r. ⌜ r ≡ secondTells (now (bundle .entry)) ⌝ }
 {
     let mut marks = [0u8; 8192];
