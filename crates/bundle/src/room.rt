@@ -5,7 +5,7 @@ ghost use Rattle.bundle.specs.Helpers.{secondTells};
 ghost use Rattle.bundle.specs.Hints.{Hinted};
 use super::Judgement;
 
-// Up to so many records have little room, up to so many some, and up to so many more.
+// Up to so many records have no room, up to so many some, and up to so many more.
 const FEW: usize = 32;
 
 const SOME: usize = 256;
@@ -17,7 +17,7 @@ pub fn second_pass(bundle: &[u8], records: usize) -> Judgement
     ensures { λ r. ⌜ r ≡ secondTells (now (bundle .entry)) ⌝ }
 {
     if records <= FEW {
-        return with_little(bundle);
+        return with_none(bundle);
     }
     if records <= SOME {
         return with_some(bundle);
@@ -29,12 +29,12 @@ pub fn second_pass(bundle: &[u8], records: usize) -> Judgement
 }
 
 // One function a size: the length of an array is part of its type, and the arrays of one function would each take stack of their own.
-fn with_little(bundle: &[u8]) -> Judgement
+fn with_none(bundle: &[u8]) -> Judgement
     ensures { λ r. ⌜ r ≡ secondTells (now (bundle .entry)) ⌝ }
 {
-    let mut marks = [0u8; 256];
-    let mut hints = [0u32; 128];
-    noted(bundle, &mut marks, &mut hints)
+    let mut marks = [0u8; 0];
+    let mut hints = [0u32; 0];
+    super::passes::second_pass(bundle, &mut marks, &mut hints)
 }
 
 fn with_some(bundle: &[u8]) -> Judgement
