@@ -6,14 +6,16 @@ use mathlib.Core.Bool.{true, false}
 use mathlib.Core.Logic.{⊎-elim}
 use mathlib.Core.List.{List}
 use native.Mathlib.Omega.{arith}
+use lib.Dec.{ltb}
 use lib.ListN.{length, getD, drop, set, replicate, List·getD-eq-default}
+use borrow.Author.Tests.{lt-ltb, le-ltb}
 use Rattle.common.specs.Lists.{any}
 use Rattle.common.proofs.Lists.{at-any, after-store}
-use Rattle.common.proofs.Tests.{never}
+use Rattle.common.proofs.Tests.{never, side}
 use Rattle.bundle.specs.Records.{Rec, rec, noRec, ifWhole, between, recordsOf}
 use Rattle.bundle.specs.Links.{serves}
 use Rattle.bundle.specs.Helpers.{stepAt, placesOf}
-use Rattle.bundle.specs.Hints.{IsPlace, placeLimit, placeIn, Hinted, KeepsHints, servesAt}
+use Rattle.bundle.specs.Hints.{IsPlace, placeLimit, placeIn, Hinted, KeepsHints, servesAt, SearchTells}
 use Rattle.bundle.specs.declared.links.Link.{Link}
 use Rattle.bundle.specs.declared.walk.Step.{Step}
 use Rattle.bundle.specs.declared.walk.Step.the-variants.{Unknown, Short, Whole}
@@ -64,3 +66,8 @@ served-there s l r p h e = go (stepAt s p) refl e
         let x = place-here s p h in
         let w = stands s p (x .0) (x .1) q refl in
         at-any (serves l r) noRec (recordsOf s) (x .0) (w .below) (rw (w .at) e)
+
+-- A SEARCH through the whole bundle tells whether one does.
+pub searched : (s : List ℕ) (l : Link) (r : Rec) (p : ℕ) → SearchTells s l r 0 (length s) p → ltb p (length s) ≡ any (serves l r) (recordsOf s)
+searched s l r p t =
+    ⊎-elim (λ h. lt-ltb p (length s) h ∙ sym (t .0 h .1)) (λ h. le-ltb p (length s) h ∙ sym (t .1 h refl (omega arith))) (side p (length s))

@@ -161,12 +161,15 @@ fn served<'a>(bundle: &'a [u8], link: Link, table: u32, r: &'a [u8], last: usize
     served_between(bundle, link, table, r, 0, bundle.len())
 }
 
-// Whether some record of the bundle is one that a record of a table wants by link k. It is looked for first where a hint says.
+// Whether some record of the bundle is one that a record of a table wants by link k. It is looked for first where a hint says, if there is room for any.
 fn is_served<'a>(bundle: &'a [u8], hints: &mut [u32], table: u32, r: &'a [u8], k: usize) -> bool
     requires { ⌜ Hinted (now bundle) (now hints) ⌝ }
     ensures { λ b. ⌜ (b ≡ any (serves (getD linkRows k noLink) (rec table (now (r .entry)))) (recordsOf (now (bundle .entry)))) × Hinted (now (bundle .entry)) (now (hints .exit)) ⌝ }
 {
     let link = link_at(k);
+    if hints.len() == 0 {
+        return served_between(bundle, link, table, r, 0, bundle.len()) < bundle.len();
+    }
     let number = super::hints::number(link.wants, link.join == BY_CODE, table, r);
     let slot = super::hints::slot_of(hints, number);
     if serves_at(bundle, link, table, r, super::hints::place_at(hints, slot)) {

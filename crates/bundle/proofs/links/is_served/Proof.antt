@@ -3,12 +3,12 @@
 use mathlib.Core.Path.{refl, sym, _∙_}
 use native.Mathlib.Omega.{arith}
 use borrow.Author.Needs.{needs}
-use Rattle.bundle.proofs.HintedPlaces.{served-there}
+use Rattle.bundle.proofs.HintedPlaces.{start-is-place, served-there, searched}
 use Rattle.bundle.proofs.links.is_served.Statement.{statement}
 use Rattle.bundle.proofs.links.is_served.Tie as tie
 
 abbrev link-of : tie.After-slot-of → tie.After-link-at
-link-of s = s .before .before .before .before
+link-of s = s .before .before .before .before .before
 
 abbrev start : tie.After-link-at → tie.Start
 start l = l .before .before .before .before
@@ -16,39 +16,47 @@ start l = l .before .before .before .before
 abbrev looked : tie.After-place-at2 → tie.After-link-at
 looked p = link-of (p .before .before .before .before .before .before)
 
--- a hint where a record serves
+-- no room for hints
 returns : tie.Need-returns
 returns c =
+    let l = c .before .before in
+    let i = start l in
+    (rw (← l .link-at .ensures) (searched (i .args .bundle .now) (l .link-at .result) _ (c .served-between .result) (c .served-between .ensures)), i .pre)
+
+-- a hint where a record serves
+returns-2 : tie.Need-returns-2
+returns-2 c =
     let v = c .before in
     let p = v .before in
     let s = p .before .before in
     let l = link-of s in
     let i = start l in (
-      sym (rw (← l .link-at .ensures) (served-there (i .args .bundle .now) (l .link-at .result) _ (p .place-at .result) (rw (p .place-at .ensures) (i .pre (s .slot-of .result))) (sym (v .serves-at .ensures) ∙ c .if1 .taken))),
+      sym (rw (← l .link-at .ensures) (served-there (i .args .bundle .now) (l .link-at .result) _ (p .place-at .result) (rw (p .place-at .ensures) (i .pre (s .slot-of .result))) (sym (v .serves-at .ensures) ∙ c .if2 .taken))),
       i .pre,
     )
 
-returns-2 : tie.Need-returns-2
-returns-2 c =
-    let a = c .before in
-    let l = looked (a .before) in
-    (sym (rw (← l .link-at .ensures) (a .served .ensures .1 (c .if2 .taken) refl (omega arith))), start l .pre)
-
--- a record found, whose place is a hint from now on
 returns-3 : tie.Need-returns-3
 returns-3 c =
+    let a = c .before in
+    let l = looked (a .before) in
+    (sym (rw (← l .link-at .ensures) (a .served .ensures .1 (c .if3 .taken) refl (omega arith))), start l .pre)
+
+-- a record found, whose place is a hint from now on
+returns-4 : tie.Need-returns-4
+returns-4 c =
     let q = c .before .before in
     let p = q .before .before .before .before in
     let e = p .before .before in
     let a = e .before in
     let l = looked (a .before) in
     let s = start l .args .bundle .now in
-    let f = a .served .ensures .0 (e .if2 .left) in
+    let f = a .served .ensures .0 (e .if3 .left) in
     (sym (rw (← l .link-at .ensures) (f .1)), q .put2 .ensures s (f .0) (p .put .ensures s (f .0) (start l .pre)))
 
 pub is-served-spec : {M : Type 1} → statement M
 is-served-spec =
     tie.close (tie.spec
-    (λ c κs. search needs) (λ c κs. search needs) (λ c κs. search needs) (λ c κs. search needs) (λ c κs. search needs) (λ c. search needs) returns
-    (λ c κs. search needs) (λ c κs. rw (c .place-at2 .ensures) (start (looked c) .pre (start (looked c) .args .k))) (λ c. search needs) returns-2
-    (λ c κs. search needs) (λ c κs. search needs) (λ c. search needs) returns-3)
+    (λ c κs. search needs) (λ c κs. start-is-place _) returns (λ c κs. search needs) (λ c κs. search needs) (λ c κs. search needs)
+    (λ c κs. search needs) (λ c. search needs) returns-2 (λ c κs. search needs)
+    (λ c κs. rw (c .place-at2 .ensures) (start (looked c) .pre (start (looked c) .args .k))) (λ c. search needs) returns-3
+    (λ c κs. search needs) (λ c κs. search needs) (λ c. search needs) returns-4)
