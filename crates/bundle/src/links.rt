@@ -26,8 +26,8 @@ const BY_OFFER_AND_RAILWAY: u32 = 2;
 
 pub const LINKS: usize = 5;
 
-// How many bytes are a little way: few beside a bundle for which it matters, so that no link takes much longer than by the walk from the start.
-const AHEAD: usize = 32768;
+// How many bytes are a little way: so few that no link takes much longer than by the walk from the start alone.
+const AHEAD: usize = 4096;
 
 fn row(table: u32, flag: u32, wants: u32, join: u32, detail: usize) -> Link
     ensures { λ r. ⌜ r ≡ linkOf table flag wants join detail ⌝ }
@@ -161,7 +161,8 @@ fn served<'a>(bundle: &'a [u8], link: Link, table: u32, r: &'a [u8], last: usize
     served_between(bundle, link, table, r, 0, bundle.len())
 }
 
-// Whether some record of the bundle is one that a record of a table wants by link k. It is looked for first where a hint says, if there is room for any.
+// Whether some record of the bundle is one that a record of a table wants by link k. It is looked for first where a hint says, if there is room for any;
+// where one of link k was last found is the hint that stands in slot k.
 fn is_served<'a>(bundle: &'a [u8], hints: &mut [u32], table: u32, r: &'a [u8], k: usize) -> bool
     requires { ⌜ Hinted (now bundle) (now hints) ⌝ }
     ensures { λ b. ⌜ (b ≡ any (serves (getD linkRows k noLink) (rec table (now (r .entry)))) (recordsOf (now (bundle .entry)))) × Hinted (now (bundle .entry)) (now (hints .exit)) ⌝ }
@@ -172,7 +173,9 @@ fn is_served<'a>(bundle: &'a [u8], hints: &mut [u32], table: u32, r: &'a [u8], k
     }
     let number = super::hints::number(link.wants, link.join == BY_CODE, table, r);
     let slot = super::hints::slot_of(hints, number);
-    if serves_at(bundle, link, table, r, super::hints::place_at(hints, slot)) {
+    let hint = super::hints::place_at(hints, slot);
+    if serves_at(bundle, link, table, r, hint) {
+        super::hints::put(hints, k, k as u64, hint);
         return true;
     }
     let place = served(bundle, link, table, r, super::hints::place_at(hints, k));
@@ -180,7 +183,7 @@ fn is_served<'a>(bundle: &'a [u8], hints: &mut [u32], table: u32, r: &'a [u8], k
         return false;
     }
     super::hints::put(hints, slot, number, place);
-    super::hints::put(hints, k, number, place);
+    super::hints::put(hints, k, k as u64, place);
     true
 }
 

@@ -26,13 +26,15 @@ returns c =
 -- a hint where a record serves
 returns-2 : tie.Need-returns-2
 returns-2 c =
-    let v = c .before in
-    let p = v .before in
+    let q = c .before .before in
+    let t = q .before .before in
+    let p = t .before .before in
     let s = p .before .before in
     let l = link-of s in
-    let i = start l in (
-      sym (rw (← l .link-at .ensures) (served-there (i .args .bundle .now) (l .link-at .result) _ (p .place-at .result) (rw (p .place-at .ensures) (i .pre (s .slot-of .result))) (sym (v .serves-at .ensures) ∙ c .if2 .taken))),
-      i .pre,
+    let i = start l in
+    let h = rw (← p .place-at .ensures) at (i .pre (s .slot-of .result)) in (
+      sym (rw (← l .link-at .ensures) (served-there (i .args .bundle .now) (l .link-at .result) _ (p .place-at .result) h (sym (t .before .serves-at .ensures) ∙ t .if2 .taken))),
+      q .put .ensures (i .args .bundle .now) h (i .pre),
     )
 
 returns-3 : tie.Need-returns-3
@@ -51,12 +53,12 @@ returns-4 c =
     let l = looked (a .before) in
     let s = start l .args .bundle .now in
     let f = a .served .ensures .0 (e .if3 .left) in
-    (sym (rw (← l .link-at .ensures) (f .1)), q .put2 .ensures s (f .0) (p .put .ensures s (f .0) (start l .pre)))
+    (sym (rw (← l .link-at .ensures) (f .1)), q .put3 .ensures s (f .0) (p .put2 .ensures s (f .0) (start l .pre)))
 
 pub is-served-spec : {M : Type 1} → statement M
 is-served-spec =
     tie.close (tie.spec
     (λ c κs. search needs) (λ c κs. start-is-place _) returns (λ c κs. search needs) (λ c κs. search needs) (λ c κs. search needs)
-    (λ c κs. search needs) (λ c. search needs) returns-2 (λ c κs. search needs)
+    (λ c κs. search needs) (λ c κs. search needs) (λ c. search needs) returns-2 (λ c κs. search needs)
     (λ c κs. rw (c .place-at2 .ensures) (start (looked c) .pre (start (looked c) .args .k))) (λ c. search needs) returns-3
     (λ c κs. search needs) (λ c κs. search needs) (λ c. search needs) returns-4)
