@@ -7,7 +7,7 @@ use mathlib.Core.List.{List, [], _∷_}
 use native.Mathlib.Omega.{arith}
 use native.Mathlib.Nat.{add-zero}
 use native.Mathlib.Numerals.{add-one}
-use lib.ListN.{length, getD, drop, length-drop, drop-of-length-le, List·getD-eq-default}
+use lib.ListN.{length, getD, drop, length-drop, List·getD-eq-default}
 use lib.Seq.{drop-drop, getD-drop}
 use Rattle.common.proofs.Tests.{side}
 use Rattle.bundle.specs.Records.{rec, noRec, stepOf, ifWhole, between, recordsFrom, restFrom, recordsOf, restOf}
@@ -17,7 +17,7 @@ use denote.Enum.Declared.{tagOf}
 use Rattle.bundle.proofs.walk.Step.{the-type}
 use Rattle.bundle.specs.declared.walk.Step.{Step}
 use Rattle.bundle.specs.declared.walk.Step.the-variants.{Unknown, Short, Whole}
-use Rattle.bundle.proofs.Steps.{Lies, whole-lies, nothing-there}
+use Rattle.bundle.proofs.Steps.{Lies, whole-lies}
 
 -- at the byte p of the bundle s the record starts that is counted j, or the records end
 pub record Here (s : List ℕ) (p j : ℕ) : Type 0 where
@@ -82,9 +82,6 @@ places-length s = places-alike (length s) 0 s
 pub data Over (s : List ℕ) : Type 0 where
   unknown : stepOf s ≡ Unknown → Over s
   short : stepOf s ≡ Short → Over s
-
-pub over-at-end : (s : List ℕ) (p : ℕ) → length s ≤ p → Over (drop p s)
-over-at-end s p l = unknown (rw (drop-of-length-le s l) nothing-there)
 
 pub records-over : (k : ℕ) (s : List ℕ) → Over s → recordsFrom k s ≡ []
 unfolding recordsFrom
@@ -211,11 +208,6 @@ module _ (s : List ℕ) (p : ℕ) where
   over-there Short x q = short (short-there q refl)
   over-there (Whole t start next) x q = ⊎-elim (λ h. absurd (omega arith)) (λ h. absurd (omega arith)) x
 
-  pub over-body : Over (drop p s) → bodyAt s p ≡ []
-  unfolding bodyAt stepAt
-  over-body (unknown e) = rw e
-  over-body (short e) = rw e
-
   -- a record lies in the bundle wherever the step was made
   moved-lies : (v : Step) (t start next : ℕ) → stepOf (drop p s) ≡ v → moved p v ≡ Whole t start next → (start ≤ next) × (next ≤ length s)
   moved-lies Unknown t start next q e = let z : _≡_ {A = ℕ} 0 1 = cc in absurd (omega arith)
@@ -231,9 +223,15 @@ module _ (s : List ℕ) (p : ℕ) where
   unfolding stepAt
   step-lies {v} {t} {start} {next} q e = moved-lies (stepOf (drop p s)) t start next refl (sym q ∙ e)
 
-  pub step-body : {v : Step} {t start next : ℕ} → v ≡ stepAt s p → v ≡ Whole t start next → between start next s ≡ bodyAt s p
-  unfolding bodyAt
-  step-body q e = rw (sym q ∙ e)
+  -- what is read off a whole record at a place, or else told
+  module _ {A : Type 0} (none : A) (f : ℕ → ℕ → ℕ → A) where
+    pub over-told : Over (drop p s) → none ≡ ifWhole (stepAt s p) none f
+    unfolding stepAt
+    over-told (unknown e) = rw e
+    over-told (short e) = rw e
+
+    pub whole-told : {v : Step} {t start next : ℕ} → v ≡ stepAt s p → v ≡ Whole t start next → f t start next ≡ ifWhole (stepAt s p) none f
+    whole-told q e = rw (sym q ∙ e)
 
 -- EVERY RECORD HAS ITS PLACE
 module _ (s : List ℕ) where
@@ -271,9 +269,10 @@ module _ (s : List ℕ) where
 
 -- the first record stands at the start
 pub first-body : (s : List ℕ) → bodyAt s 0 ≡ getD (recordsOf s) 0 noRec .body
+unfolding bodyAt
 first-body s = go (stepOf (drop 0 s)) refl
   where
     go : (v : Step) → stepOf (drop 0 s) ≡ v → bodyAt s 0 ≡ getD (recordsOf s) 0 noRec .body
-    go Unknown e = over-body s 0 (unknown e) ∙ sym (ap (λ R. getD R 0 noRec .body) (over-nil s 0 0 (here-start s) (unknown e)))
-    go Short e = over-body s 0 (short e) ∙ sym (ap (λ R. getD R 0 noRec .body) (over-nil s 0 0 (here-start s) (short e)))
+    go Unknown e = sym (over-told s 0 _ _ (unknown e)) ∙ sym (ap (λ R. getD R 0 noRec .body) (over-nil s 0 0 (here-start s) (unknown e)))
+    go Short e = sym (over-told s 0 _ _ (short e)) ∙ sym (ap (λ R. getD R 0 noRec .body) (over-nil s 0 0 (here-start s) (short e)))
     go (Whole t start next) e = whole-stands s 0 0 (here-start s) t start next e .body

@@ -7,19 +7,19 @@ use mathlib.Core.Logic.{⊎-elim}
 use mathlib.Core.List.{List}
 use native.Mathlib.Omega.{arith}
 use lib.Dec.{ltb}
-use lib.ListN.{length, getD, drop, set, replicate, List·getD-eq-default}
+use lib.ListN.{length, getD, set, replicate, List·getD-eq-default}
 use borrow.Author.Tests.{lt-ltb, le-ltb}
 use Rattle.common.specs.Lists.{any}
 use Rattle.common.proofs.Lists.{at-any, after-store}
 use Rattle.common.proofs.Tests.{never, side}
 use Rattle.bundle.specs.Records.{Rec, rec, noRec, ifWhole, between, recordsOf}
 use Rattle.bundle.specs.Links.{serves}
-use Rattle.bundle.specs.Helpers.{stepAt, placesOf}
+use Rattle.bundle.specs.Helpers.{stepAt, placesOf, placeBehind}
 use Rattle.bundle.specs.Hints.{IsPlace, placeLimit, placeIn, Hinted, KeepsHints, servesAt, SearchTells}
 use Rattle.bundle.specs.declared.links.Link.{Link}
 use Rattle.bundle.specs.declared.walk.Step.{Step}
 use Rattle.bundle.specs.declared.walk.Step.the-variants.{Unknown, Short, Whole}
-use Rattle.bundle.proofs.Here.{Here, Over, unknown, short, stands, here-at-place}
+use Rattle.bundle.proofs.Here.{Here, here-start, stands, here-at-place}
 
 -- PLACES: a place is a position of the walk,
 pub place-here : (s : List ℕ) (p : ℕ) → IsPlace s p → (j : ℕ) × Here s p j
@@ -43,31 +43,38 @@ hint-put hints k p tag l s h f j =
     let e : placeIn (tag * placeLimit + p) ≡ p = omega arith in
     ⊎-elim (λ q. rw (q .1, e) h) (λ q. rw q (f j)) (after-store hints k j (tag * placeLimit + p))
 
--- WHETHER A RECORD SERVES AT A PLACE, by the step that was made there;
-module _ (s : List ℕ) (l : Link) (r : Rec) (p : ℕ) where
-  pub none-there : Over (drop p s) → false ≡ servesAt s l r p
-  unfolding servesAt stepAt
-  none-there (unknown e) = rw e
-  none-there (short e) = rw e
-
-  pub one-there : {v : Step} {t start next : ℕ} → v ≡ stepAt s p → v ≡ Whole t start next → serves l r (rec t (between start next s)) ≡ servesAt s l r p
-  unfolding servesAt
-  one-there q e = rw (sym q ∙ e)
-
--- one that does is one of the bundle's.
-pub served-there : (s : List ℕ) (l : Link) (r : Rec) (p : ℕ) → IsPlace s p → servesAt s l r p ≡ true → any (serves l r) (recordsOf s) ≡ true
+-- A RECORD THAT SERVES AT A PLACE is one of the bundle's,
+served-here : (s : List ℕ) (l : Link) (r : Rec) (p j : ℕ) → Here s p j → servesAt s l r p ≡ true
+    → (p < length s) × IsPlace s p × (any (serves l r) (recordsOf s) ≡ true)
 unfolding servesAt
-served-there s l r p h e = go (stepAt s p) refl e
+served-here s l r p j h e = go (stepAt s p) refl e
   where
-    go : (v : Step) → v ≡ stepAt s p → ifWhole v false (λ t start next. serves l r (rec t (between start next s))) ≡ true → any (serves l r) (recordsOf s) ≡ true
+    go : (v : Step) → v ≡ stepAt s p → ifWhole v false (λ t start next. serves l r (rec t (between start next s))) ≡ true
+        → (p < length s) × IsPlace s p × (any (serves l r) (recordsOf s) ≡ true)
     go Unknown q e = never e refl
     go Short q e = never e refl
     go (Whole t start next) q e =
-        let x = place-here s p h in
-        let w = stands s p (x .0) (x .1) q refl in
-        at-any (serves l r) noRec (recordsOf s) (x .0) (w .below) (rw (w .at) e)
+        let w = stands s p j h q refl in
+        (omega (arith, w .starts, w .ends, w .inside), (j, w .place), at-any (serves l r) noRec (recordsOf s) j (w .below) (rw (w .at) e))
 
--- A SEARCH through the whole bundle tells whether one does.
-pub searched : (s : List ℕ) (l : Link) (r : Rec) (p : ℕ) → SearchTells s l r 0 (length s) p → ltb p (length s) ≡ any (serves l r) (recordsOf s)
+pub served-there : (s : List ℕ) (l : Link) (r : Rec) (p : ℕ) → IsPlace s p → servesAt s l r p ≡ true → any (serves l r) (recordsOf s) ≡ true
+served-there s l r p h e = let x = place-here s p h in served-here s l r p (x .0) (x .1) e .2
+
+-- so that a search may tell of it.
+pub tells-here : (s : List ℕ) (l : Link) (r : Rec) (p j : ℕ) → Here s p j → servesAt s l r p ≡ true → SearchTells s l r p
+tells-here s l r p j h e = let w = served-here s l r p j h e in ((λ b. (w .1, w .2)), λ b. absurd (omega (arith, w .0)))
+
+-- THE PLACE BEHIND a place is one of the walk's.
+pub here-behind : (s : List ℕ) (p j : ℕ) → Here s p j → (k : ℕ) × Here s (placeBehind s p) k
+unfolding placeBehind
+here-behind s p j h = go (stepAt s p) refl
+  where
+    go : (v : Step) → v ≡ stepAt s p → (k : ℕ) × Here s (ifWhole v 0 (λ t start next. next)) k
+    go Unknown q = (0, here-start s)
+    go Short q = (0, here-start s)
+    go (Whole t start next) q = (j + 1, stands s p j h q refl .then)
+
+-- A SEARCH tells whether some record serves.
+pub searched : (s : List ℕ) (l : Link) (r : Rec) (p : ℕ) → SearchTells s l r p → ltb p (length s) ≡ any (serves l r) (recordsOf s)
 searched s l r p t =
-    ⊎-elim (λ h. lt-ltb p (length s) h ∙ sym (t .0 h .1)) (λ h. le-ltb p (length s) h ∙ sym (t .1 h refl (omega arith))) (side p (length s))
+    ⊎-elim (λ h. lt-ltb p (length s) h ∙ sym (t .0 h .1)) (λ h. le-ltb p (length s) h ∙ sym (t .1 h)) (side p (length s))

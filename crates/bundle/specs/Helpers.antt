@@ -45,6 +45,10 @@ placesOf s = placesFrom (length s) 0 s
 unfoldable pub bodyAt : List ℕ → ℕ → List ℕ
 bodyAt s p = ifWhole (stepAt s p) [] (λ t start next. between start next s)
 
+-- the place behind it, the bundle's start where no whole record starts there
+unfoldable pub placeBehind : List ℕ → ℕ → ℕ
+placeBehind s p = ifWhole (stepAt s p) 0 (λ t start next. next)
+
 -- a choice by the place of its mark
 abbrev pub atPlace : List ℕ → Choice → Choice
 atPlace s (At i) = At (getD (placesOf s) i 0)

@@ -43,9 +43,8 @@ hintNumber wants coded t body = rankOf (nameOf coded t body) + wants * tableStep
 unfoldable pub servesAt : List ℕ → Link → Rec → ℕ → Bool
 servesAt s l r p = ifWhole (stepAt s p) false (λ t start next. serves l r (rec t (between start next s)))
 
--- what a search from a place on and before another tells: where a record stands that serves, or the bundle's length, and then none serves if it went
--- through the whole bundle
-abbrev pub SearchTells : List ℕ → Link → Rec → ℕ → ℕ → ℕ → Type 0
-SearchTells s l r from end p =
+-- what a search tells: where a record stands that serves, or the bundle's length, and then none serves
+abbrev pub SearchTells : List ℕ → Link → Rec → ℕ → Type 0
+SearchTells s l r p =
     (p < length s → IsPlace s p × (any (serves l r) (recordsOf s) ≡ true)) ×
-    (length s ≤ p → from ≡ 0 → length s ≤ end → any (serves l r) (recordsOf s) ≡ false)
+    (length s ≤ p → any (serves l r) (recordsOf s) ≡ false)

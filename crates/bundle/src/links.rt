@@ -1,6 +1,6 @@
 // Links from a record to another.
 ghost use mathlib.Core.Path.{_≡_};
-ghost use lib.ListN.{length, getD};
+ghost use lib.ListN.{getD};
 ghost use Rattle.common.specs.Lists.{any};
 ghost use Rattle.bundle.specs.Records.{recordsOf, rec};
 ghost use Rattle.bundle.specs.Links.{link as linkOf, linkRows, noLink, isAsked, railwayServes, joins, serves, lacks, missingLink};
@@ -25,9 +25,6 @@ const BY_OFFER: u32 = 1;
 const BY_OFFER_AND_RAILWAY: u32 = 2;
 
 pub const LINKS: usize = 5;
-
-// How many bytes are a little way: so few that no link takes much longer than by the walk from the start alone.
-const AHEAD: usize = 4096;
 
 fn row(table: u32, flag: u32, wants: u32, join: u32, detail: usize) -> Link
     ensures { λ r. ⌜ r ≡ linkOf table flag wants join detail ⌝ }
@@ -120,20 +117,12 @@ fn serves_at<'a>(bundle: &'a [u8], link: Link, table: u32, r: &'a [u8], place: u
     serves_it(link, table, r, t, &bundle[start..next])
 }
 
-// The place of the first such record from a place on that starts before another, the bundle's length where there is none.
-fn served_between<'a>(
-    bundle: &'a [u8],
-    link: Link,
-    table: u32,
-    r: &'a [u8],
-    from: usize,
-    end: usize,
-) -> usize
-    requires { ⌜ IsPlace (now bundle) from ⌝ }
-    ensures { λ p. ⌜ SearchTells (now (bundle .entry)) link (rec table (now (r .entry))) from end p ⌝ }
+// The place of the first such record, the bundle's length where there is none.
+fn first_served<'a>(bundle: &'a [u8], link: Link, table: u32, r: &'a [u8]) -> usize
+    ensures { λ p. ⌜ SearchTells (now (bundle .entry)) link (rec table (now (r .entry))) p ⌝ }
 {
-    let mut at = from;
-    while at < end {
+    let mut at = 0;
+    loop {
         let here = super::walk::step_at(bundle, at);
         let Step::Whole(t, start, next) = here else {
             return bundle.len();
@@ -146,19 +135,21 @@ fn served_between<'a>(
         }
         at = next;
     }
-    bundle.len()
 }
 
-// The place of such a record: a little way on from where one of its kind was last found, and then from the start.
+// The place of such a record: where one was last found, right behind it, as in a bundle that is sorted, or where the first is.
 fn served<'a>(bundle: &'a [u8], link: Link, table: u32, r: &'a [u8], last: usize) -> usize
     requires { ⌜ IsPlace (now bundle) last ⌝ }
-    ensures { λ p. ⌜ SearchTells (now (bundle .entry)) link (rec table (now (r .entry))) 0 (length (now (bundle .entry))) p ⌝ }
+    ensures { λ p. ⌜ SearchTells (now (bundle .entry)) link (rec table (now (r .entry))) p ⌝ }
 {
-    let place = served_between(bundle, link, table, r, last, last + AHEAD);
-    if place < bundle.len() {
-        return place;
+    if serves_at(bundle, link, table, r, last) {
+        return last;
     }
-    served_between(bundle, link, table, r, 0, bundle.len())
+    let next = super::walk::place_behind(bundle, last);
+    if serves_at(bundle, link, table, r, next) {
+        return next;
+    }
+    first_served(bundle, link, table, r)
 }
 
 // Whether some record of the bundle is one that a record of a table wants by link k. It is looked for first where a hint says, if there is room for any;
@@ -169,7 +160,7 @@ fn is_served<'a>(bundle: &'a [u8], hints: &mut [u32], table: u32, r: &'a [u8], k
 {
     let link = link_at(k);
     if hints.len() == 0 {
-        return served_between(bundle, link, table, r, 0, bundle.len()) < bundle.len();
+        return first_served(bundle, link, table, r) < bundle.len();
     }
     let number = super::hints::number(link.wants, link.join == BY_CODE, table, r);
     let slot = super::hints::slot_of(hints, number);

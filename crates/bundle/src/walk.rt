@@ -3,7 +3,7 @@ ghost use mathlib.Core.Path.{_≡_};
 ghost use Prim.Native.Nat.{_+_, _*_, _<_};
 ghost use lib.ListN.{getD, drop};
 ghost use Rattle.bundle.specs.Records.{tableOf};
-ghost use Rattle.bundle.specs.Helpers.{isMark, stepAt, bodyAt};
+ghost use Rattle.bundle.specs.Helpers.{isMark, stepAt, bodyAt, placeBehind};
 
 // What stands at a place of a bundle: no known mark, too few bytes for its record, or a whole record: its table, where its body starts and
 // where the next record does.
@@ -77,4 +77,15 @@ pub fn body_at(bundle: &[u8], place: usize) -> &[u8]
         return common::part(bundle, 0, 0);
     };
     &bundle[start..next]
+}
+
+// The place behind the record whose mark stands at a place, the bundle's start where no whole record starts there.
+pub fn place_behind(bundle: &[u8], place: usize) -> usize
+    ensures { λ r. ⌜ r ≡ placeBehind (now (bundle .entry)) place ⌝ }
+{
+    let here = step_at(bundle, place);
+    let Step::Whole(_, _, next) = here else {
+        return 0;
+    };
+    next
 }

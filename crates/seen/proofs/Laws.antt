@@ -1,18 +1,18 @@
 -- Laws of the numbers seen: one told to be new was not seen, it is seen from then on, and nothing that was seen is forgotten.
 -- Assumes nothing.
-use Prim.Native.Nat.{ℕ, _+_, _%_, _≤_, _<_}
-use mathlib.Core.Path.{_≡_, refl, sym, _∙_, ap}
+use Prim.Native.Nat.{ℕ, _%_, _≤_, _<_}
+use mathlib.Core.Path.{_≡_, refl, _∙_, ap}
 use mathlib.Core.Bool.{Bool, true, false, cond, not, _&&_, _||_, and-false}
-use mathlib.Core.Logic.{_⊎_, ⊎-elim}
+use mathlib.Core.Logic.{⊎-elim}
 use mathlib.Core.List.{List, [], _∷_}
 use native.Mathlib.Omega.{arith}
 use native.Mathlib.Nat.{mod-lt}
-use lib.Dec.{eqb, ltb}
+use lib.Dec.{eqb}
 use lib.ListN.{length, getD, set, length-set}
 use lib.Seq.{getD-set-same}
 use borrow.Author.Tests.{eqb-true, eq-eqb, ne-eqb, lt-ltb, le-ltb}
 use Rattle.common.proofs.Lists.{after-store}
-use Rattle.common.proofs.Tests.{never, either-false, side}
+use Rattle.common.proofs.Tests.{never, side}
 use Rattle.seen.specs.Seen.{isAbove, raised, printOf, excludes, marked, markOf, isUnmarked, remarked, isNew, InTops, InMarks, Seen, Tells}
 
 -- what is seen already is not told to be new

@@ -1,7 +1,6 @@
 -- `seen::rises` meets its contract.
 -- Assumes nothing.
 use mathlib.Core.Path.{sym}
-use native.Mathlib.Omega.{arith}
 use borrow.Author.Needs.{needs}
 use Rattle.seen.proofs.Laws.{no-such-kind, not-above, is-above}
 use Rattle.seen.proofs.rises.Statement.{statement}

@@ -1,9 +1,8 @@
 -- `bundle::links::is_served` meets its contract.
 -- Assumes nothing.
-use mathlib.Core.Path.{refl, sym, _∙_}
-use native.Mathlib.Omega.{arith}
+use mathlib.Core.Path.{sym, _∙_}
 use borrow.Author.Needs.{needs}
-use Rattle.bundle.proofs.HintedPlaces.{start-is-place, served-there, searched}
+use Rattle.bundle.proofs.HintedPlaces.{served-there, searched}
 use Rattle.bundle.proofs.links.is_served.Statement.{statement}
 use Rattle.bundle.proofs.links.is_served.Tie as tie
 
@@ -21,7 +20,7 @@ returns : tie.Need-returns
 returns c =
     let l = c .before .before in
     let i = start l in
-    (rw (← l .link-at .ensures) (searched (i .args .bundle .now) (l .link-at .result) _ (c .served-between .result) (c .served-between .ensures)), i .pre)
+    (rw (← l .link-at .ensures) (searched (i .args .bundle .now) (l .link-at .result) _ (c .first-served .result) (c .first-served .ensures)), i .pre)
 
 -- a hint where a record serves
 returns-2 : tie.Need-returns-2
@@ -41,7 +40,7 @@ returns-3 : tie.Need-returns-3
 returns-3 c =
     let a = c .before in
     let l = looked (a .before) in
-    (sym (rw (← l .link-at .ensures) (a .served .ensures .1 (c .if3 .taken) refl (omega arith))), start l .pre)
+    (sym (rw (← l .link-at .ensures) (a .served .ensures .1 (c .if3 .taken))), start l .pre)
 
 -- a record found, whose place is a hint from now on
 returns-4 : tie.Need-returns-4
@@ -58,7 +57,7 @@ returns-4 c =
 pub is-served-spec : {M : Type 1} → statement M
 is-served-spec =
     tie.close (tie.spec
-    (λ c κs. search needs) (λ c κs. start-is-place _) returns (λ c κs. search needs) (λ c κs. search needs) (λ c κs. search needs)
+    (λ c κs. search needs) (λ c κs. search needs) returns (λ c κs. search needs) (λ c κs. search needs) (λ c κs. search needs)
     (λ c κs. search needs) (λ c κs. search needs) (λ c. search needs) returns-2 (λ c κs. search needs)
     (λ c κs. rw (c .place-at2 .ensures) (start (looked c) .pre (start (looked c) .args .k))) (λ c. search needs) returns-3
     (λ c κs. search needs) (λ c κs. search needs) (λ c. search needs) returns-4)

@@ -1,8 +1,7 @@
--- `bundle::links::served_between` meets its contract. The loop's invariant: the loop stands at record i, and where it began at the start the records from it on
--- decide.
+-- `bundle::links::first_served` meets its contract. The loop's invariant: the loop stands at record i, and the records from it on decide.
 -- Assumes nothing.
-use Prim.Native.Nat.{ℕ, _+_, _-_, _≤_}
-use mathlib.Core.Path.{_≡_, sym, _∙_}
+use Prim.Native.Nat.{ℕ, _+_, _-_}
+use mathlib.Core.Path.{_≡_, refl, sym, _∙_}
 use mathlib.Core.Bool.{false}
 use native.Mathlib.Omega.{arith}
 use lib.ListN.{length, drop}
@@ -11,53 +10,46 @@ use Rattle.common.specs.Lists.{any}
 use Rattle.common.proofs.Lists.{at-any}
 use Rattle.bundle.specs.Records.{rec, noRec, between, recordsOf}
 use Rattle.bundle.specs.Links.{serves}
-use Rattle.bundle.proofs.Here.{Here, Stands, stands, over-there, over-at-end, over-nil}
+use Rattle.bundle.proofs.Here.{Here, Stands, here-start, stands, over-there, over-nil}
 use Rattle.bundle.proofs.PassLaws.{not-wanted}
-use Rattle.bundle.proofs.HintedPlaces.{place-here}
-use Rattle.bundle.proofs.links.served_between.Statement.{statement}
-use Rattle.bundle.proofs.links.served_between.Tie as tie
+use Rattle.bundle.proofs.links.first_served.Statement.{statement}
+use Rattle.bundle.proofs.links.first_served.Tie as tie
 
 abbrev Inv-loop : tie.InvT-loop
-Inv-loop bundle link table r from end at₀ at =
+Inv-loop bundle link table r at₀ at =
     (i : ℕ) × Here bundle at i
-    × (from ≡ 0 → any (serves link (rec table r)) (recordsOf bundle) ≡ any (serves link (rec table r)) (drop i (recordsOf bundle)))
+    × (any (serves link (rec table r)) (recordsOf bundle) ≡ any (serves link (rec table r)) (drop i (recordsOf bundle)))
 
 abbrev μ-loop : tie.MeasureT-loop
-μ-loop bundle link table r from end at₀ at = length bundle - at
+μ-loop bundle link table r at₀ at = length bundle - at
 
 abbrev Known : Type 0
 Known = tie.After-known-told Inv-loop μ-loop
 
 abbrev place : Known → tie.At-loop Inv-loop μ-loop
-place k = k .before .before .before .before .before
+place k = k .before .before .before .before
 
 -- the record at hand
 found : (k : Known) → let g = k .before .here .given .0 in
     Stands (place k .before .before .before .args .bundle .now) (place k .loop .at) (place k .loop .inv .0) (g .0) (g .1 .0) (g .1 .1 .0)
 found k = stands _ _ _ (place k .loop .inv .1) (k .before .before .before .step-at .ensures) (k .before .here .given .1)
 
-loop-holds : tie.Need-loop-holds Inv-loop μ-loop
-loop-holds c =
-    let a = c .before .before .args in
-    let h = place-here (a .bundle .now) (a .from) (c .before .before .pre) in
-    (h .0, h .1, λ e. let z : h .0 ≡ 0 = omega (arith, h .1 .counted) in rw z)
-
 -- a record that does not serve leaves it to those after it
 passed : (k : Known) → let g = k .before .here .given .0 in
     let a = place k .before .before .before .args in
     let p = serves (a .link) (rec (a .table) (a .r .now)) in
-    false ≡ p (rec (g .0) (between (g .1 .0) (g .1 .1 .0) (a .bundle .now))) → a .from ≡ 0
+    false ≡ p (rec (g .0) (between (g .1 .0) (g .1 .1 .0) (a .bundle .now)))
     → any p (recordsOf (a .bundle .now)) ≡ any p (drop (place k .loop .inv .0 + 1) (recordsOf (a .bundle .now)))
 unfolding any
-passed k q e = place k .loop .inv .2 e ∙ rw (found k .cons, ← q)
+passed k q = place k .loop .inv .2 ∙ rw (found k .cons, ← q)
 
 returns : tie.Need-returns Inv-loop μ-loop
 unfolding any
 returns c =
     let f = c .before in
-    let i = f .before .before .loop .inv in
+    let i = f .before .loop .inv in
     let o = over-nil _ _ _ (i .1) (over-there _ _ (f .step-at .result) (c .match .keys2) (f .step-at .ensures)) in
-    ((λ l. absurd (omega arith)), λ l e n. i .2 e ∙ rw o)
+    ((λ l. absurd (omega arith)), λ l. i .2 ∙ rw o)
 
 abbrev known : tie.After-serves-it Inv-loop μ-loop → Known
 known c = c .before .before .before .before
@@ -69,7 +61,7 @@ returns-2 c =
     let w = found k in
     let i = place k .loop .inv in (
       (λ l. ((i .0, w .place), at-any _ noRec _ (i .0) (w .below) (rw (w .at) (sym (v .serves-it .ensures) ∙ c .if2 .taken)))),
-      λ l e n. absurd (omega (arith, w .starts, w .ends, w .inside)),
+      λ l. absurd (omega (arith, w .starts, w .ends, w .inside)),
     )
 
 -- the record is of the table that is wanted and does not serve, or it is of another
@@ -83,18 +75,10 @@ loop-again-2 c =
     let k = c .before .before in
     (place k .loop .inv .0 + 1, found k .then, passed k (not-wanted _ _ _ (c .if1 .left)))
 
-returns-3 : tie.Need-returns-3 Inv-loop μ-loop
-unfolding any
-returns-3 c =
-    let s = c .before .before .before .before .args .bundle .now in
-    let p = c .before .loop .at in
-    let i = c .before .loop .inv in
-    ((λ l. absurd (omega arith)), λ l e n. let b : length s ≤ p = omega arith in i .2 e ∙ rw (over-nil _ _ _ (i .1) (over-at-end s p b)))
-
-pub served-between-spec : {M : Type 1} → statement M
-served-between-spec =
+pub first-served-spec : {M : Type 1} → statement M
+first-served-spec =
     tie.close (tie.spec
-    Inv-loop μ-loop loop-holds (λ c κs. search needs) (λ c. search needs) returns (λ c. found (c .before .before) .ends)
+    Inv-loop μ-loop (λ c. (0, here-start _, refl)) (λ c κs. search needs) (λ c. search needs) returns (λ c. found (c .before .before) .ends)
     (λ c. let w = found (c .before .before) in omega (arith, w .ends, w .inside)) (λ c. found (c .before .before) .inside) (λ c κs. search needs) returns-2
     (λ c. let w = found (known (c .before)) in omega (arith, w .starts, w .ends, w .inside)) loop-again
-    (λ c. let w = found (c .before .before) in omega (arith, w .starts, w .ends, w .inside)) loop-again-2 returns-3)
+    (λ c. let w = found (c .before .before) in omega (arith, w .starts, w .ends, w .inside)) loop-again-2)
