@@ -15,7 +15,7 @@ use Rattle.common.proofs.Tests.{never, side}
 use Rattle.bundle.specs.Records.{Rec, rec, noRec, ifWhole, between, recordsOf}
 use Rattle.bundle.specs.Links.{serves}
 use Rattle.bundle.specs.Helpers.{stepAt, placesOf, placeBehind}
-use Rattle.bundle.specs.Hints.{IsPlace, placeLimit, placeIn, Hinted, KeepsHints, servesAt, SearchTells}
+use Rattle.bundle.specs.Hints.{IsPlace, placeLimit, placeIn, Hinted, KeepsHints, servesAt, Found, SearchTells}
 use Rattle.bundle.specs.declared.links.Link.{Link}
 use Rattle.bundle.specs.declared.walk.Step.{Step}
 use Rattle.bundle.specs.declared.walk.Step.the-variants.{Unknown, Short, Whole}
@@ -45,24 +45,24 @@ hint-put hints k p tag l s h f j =
 
 -- A RECORD THAT SERVES AT A PLACE is one of the bundle's,
 served-here : (s : List ℕ) (l : Link) (r : Rec) (p j : ℕ) → Here s p j → servesAt s l r p ≡ true
-    → (p < length s) × IsPlace s p × (any (serves l r) (recordsOf s) ≡ true)
+    → IsPlace s p × (any (serves l r) (recordsOf s) ≡ true)
 unfolding servesAt
 served-here s l r p j h e = go (stepAt s p) refl e
   where
     go : (v : Step) → v ≡ stepAt s p → ifWhole v false (λ t start next. serves l r (rec t (between start next s))) ≡ true
-        → (p < length s) × IsPlace s p × (any (serves l r) (recordsOf s) ≡ true)
+        → IsPlace s p × (any (serves l r) (recordsOf s) ≡ true)
     go Unknown q e = never e refl
     go Short q e = never e refl
     go (Whole t start next) q e =
         let w = stands s p j h q refl in
-        (omega (arith, w .starts, w .ends, w .inside), (j, w .place), at-any (serves l r) noRec (recordsOf s) j (w .below) (rw (w .at) e))
+        ((j, w .place), at-any (serves l r) noRec (recordsOf s) j (w .below) (rw (w .at) e))
 
 pub served-there : (s : List ℕ) (l : Link) (r : Rec) (p : ℕ) → IsPlace s p → servesAt s l r p ≡ true → any (serves l r) (recordsOf s) ≡ true
-served-there s l r p h e = let x = place-here s p h in served-here s l r p (x .0) (x .1) e .2
+served-there s l r p h e = let x = place-here s p h in served-here s l r p (x .0) (x .1) e .1
 
 -- so that a search may tell of it.
-pub tells-here : (s : List ℕ) (l : Link) (r : Rec) (p j : ℕ) → Here s p j → servesAt s l r p ≡ true → SearchTells s l r p
-tells-here s l r p j h e = let w = served-here s l r p j h e in ((λ b. (w .1, w .2)), λ b. absurd (omega (arith, w .0)))
+pub found-here : (s : List ℕ) (l : Link) (r : Rec) (p j : ℕ) → Here s p j → servesAt s l r p ≡ true → Found s l r p
+found-here s l r p j h e b = let w = served-here s l r p j h e in (w .0, w .1)
 
 -- THE PLACE BEHIND a place is one of the walk's.
 pub here-behind : (s : List ℕ) (p j : ℕ) → Here s p j → (k : ℕ) × Here s (placeBehind s p) k

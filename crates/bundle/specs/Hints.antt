@@ -43,8 +43,9 @@ hintNumber wants coded t body = rankOf (nameOf coded t body) + wants * tableStep
 unfoldable pub servesAt : List ℕ → Link → Rec → ℕ → Bool
 servesAt s l r p = ifWhole (stepAt s p) false (λ t start next. serves l r (rec t (between start next s)))
 
--- what a search tells: where a record stands that serves, or the bundle's length, and then none serves
+-- what a search tells: where a record stands that serves, or the bundle's length, and then none serves if it went through the whole bundle
+abbrev pub Found : List ℕ → Link → Rec → ℕ → Type 0
+Found s l r p = p < length s → IsPlace s p × (any (serves l r) (recordsOf s) ≡ true)
+
 abbrev pub SearchTells : List ℕ → Link → Rec → ℕ → Type 0
-SearchTells s l r p =
-    (p < length s → IsPlace s p × (any (serves l r) (recordsOf s) ≡ true)) ×
-    (length s ≤ p → any (serves l r) (recordsOf s) ≡ false)
+SearchTells s l r p = Found s l r p × (length s ≤ p → any (serves l r) (recordsOf s) ≡ false)

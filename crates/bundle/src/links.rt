@@ -4,7 +4,7 @@ ghost use lib.ListN.{getD};
 ghost use Rattle.common.specs.Lists.{any};
 ghost use Rattle.bundle.specs.Records.{recordsOf, rec};
 ghost use Rattle.bundle.specs.Links.{link as linkOf, linkRows, noLink, isAsked, railwayServes, joins, serves, lacks, missingLink};
-ghost use Rattle.bundle.specs.Hints.{IsPlace, Hinted, servesAt, SearchTells};
+ghost use Rattle.bundle.specs.Hints.{IsPlace, Hinted, servesAt, Found, SearchTells};
 use super::walk::Step;
 
 // A record of `table`, or a CO whose field `flag` is Y, wants a record of `wants` that is joined with it; else the detail is told.
@@ -25,6 +25,9 @@ const BY_OFFER: u32 = 1;
 const BY_OFFER_AND_RAILWAY: u32 = 2;
 
 pub const LINKS: usize = 5;
+
+// How many records are near: so few that no link takes much longer than by the walk from the start alone.
+const FEW: usize = 64;
 
 fn row(table: u32, flag: u32, wants: u32, join: u32, detail: usize) -> Link
     ensures { λ r. ⌜ r ≡ linkOf table flag wants join detail ⌝ }
@@ -137,17 +140,31 @@ fn first_served<'a>(bundle: &'a [u8], link: Link, table: u32, r: &'a [u8]) -> us
     }
 }
 
-// The place of such a record: where one was last found, right behind it, as in a bundle that is sorted, or where the first is.
+// The place of one among the next few records from a place on, around the bundle's end; its length where none is.
+fn served_near<'a>(bundle: &'a [u8], link: Link, table: u32, r: &'a [u8], place: usize) -> usize
+    requires { ⌜ IsPlace (now bundle) place ⌝ }
+    ensures { λ p. ⌜ Found (now (bundle .entry)) link (rec table (now (r .entry))) p ⌝ }
+{
+    let mut at = place;
+    let mut k = 0;
+    while k < FEW {
+        if serves_at(bundle, link, table, r, at) {
+            return at;
+        }
+        at = super::walk::place_behind(bundle, at);
+        k += 1;
+    }
+    bundle.len()
+}
+
+// The place of such a record: near where one was last found, as in a bundle that is sorted, or else the first.
 fn served<'a>(bundle: &'a [u8], link: Link, table: u32, r: &'a [u8], last: usize) -> usize
     requires { ⌜ IsPlace (now bundle) last ⌝ }
     ensures { λ p. ⌜ SearchTells (now (bundle .entry)) link (rec table (now (r .entry))) p ⌝ }
 {
-    if serves_at(bundle, link, table, r, last) {
-        return last;
-    }
-    let next = super::walk::place_behind(bundle, last);
-    if serves_at(bundle, link, table, r, next) {
-        return next;
+    let near = served_near(bundle, link, table, r, last);
+    if near < bundle.len() {
+        return near;
     }
     first_served(bundle, link, table, r)
 }
