@@ -11,13 +11,14 @@
  * BASE, and of a table. A key whose number is above all earlier ones of its table is new; so is one whose mark, at number % MARKS, is empty or has
  * only seen another print. A link looks first where a hint says, by the number of its offer or code: it passes over up to TRIES slots that a tag
  * shows to be others', from number % HINTS on and each STRIDE further, and believes the one behind them. Records take empty slots as they come; a
- * link that its hint does not help walks on from where the last of its kind was found, around the bundle, and puts what it finds into that slot. */
-enum { BASE = 19, TABLE_STEP = 1000003, MARKS = 65536, PRINTS = 254, HINTS = 12288, TRIES = 8, STRIDE = 509 };
+ * link that its hint does not help looks at some records from where the last of its kind was found, then walks from the start, and puts what it finds
+ * into that slot. */
+enum { BASE = 19, TABLE_STEP = 1000003, MARKS = 65536, PRINTS = 254, HINTS = 12288, TRIES = 16, STRIDE = 509 };
 enum table { CO, RE, AR };
 
 /* Each code has an RE, and OFFERS_EACH CO whose offers start from the same slot as the code. CO that no AR wants come before them and take all that
  * is passed over, so that in the one slot behind code and offers put each other out. The codes are such that share slots, which saves CO. AR go from
- * the last code and the last offer down to the first and again: the walk for nearly each link goes around the whole bundle. Each turn has codes
+ * the last code and the last offer down to the first and again: nearly each link is walked for. Each turn has codes
  * meet other offers, for more keys. The keys of all AR have few marks, which soon have seen two prints and prove nothing. */
 enum { CODES = 12, OFFERS_EACH = 3, OFFERS = CODES * OFFERS_EACH, TURN = 1000, RAILWAYS = 10000, FEW_MARKS = 512, KEY = 12, BYTES_OF_AR = 51 };
 

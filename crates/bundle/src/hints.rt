@@ -11,7 +11,7 @@ const PLACES: u64 = 2097152;
 const TAGS: u64 = 2039;
 
 // How many slots a hint may stand in, and how far one is from the next.
-const TRIES: usize = 8;
+const TRIES: usize = 16;
 
 const STRIDE: u64 = 509;
 

@@ -11,7 +11,7 @@ use crate::cards::CardUse;
 use crate::fare::{largest_part, priced_legs, PricedLeg, Source};
 use crate::generate::cards::{Slots, PAIRS_OF_SLOTS};
 use crate::generate::corpus::every_row;
-use crate::generate::crowded::{Crowded, Length, Order};
+use crate::generate::crowded::{step_of, Crowded, Length, Order, STEPS};
 use crate::generate::resent::Change;
 use crate::layout::{co, Table};
 use crate::question::{Question, CARD_SLOTS, LARGEST_CARD, LEG_SLOTS, NO_CARDS};
@@ -84,20 +84,19 @@ impl Coverage {
         self.meet(MALFORMED, kind);
     }
 
-    /// By its length, and by the order of its records.
+    /// By its length, and by the number and the order of its records.
     pub fn note_crowded(&mut self, crowded: &Crowded, answer: &Answer) {
         let told = match answer.number {
             0 => ANSWERED.to_string(),
             number => number.to_string(),
         };
-        let length = Length::of(&crowded.bundle);
-        self.meet(&crowded_group(length.word()), &told);
-        self.meet(&crowded_group(crowded.order.word()), &told);
+        let records = readable_records(&crowded.bundle);
+        let length = Length::of(&crowded.bundle).word();
+        for word in [length, step_of(records.len()), crowded.order.word()] {
+            self.meet(&crowded_group(word), &told);
+        }
         match answer.number {
-            6 => {
-                let records = readable_records(&crowded.bundle);
-                self.meet(CROWDED_KEY, records[answer.place as usize].table.mark());
-            }
+            6 => self.meet(CROWDED_KEY, records[answer.place as usize].table.mark()),
             7 => self.meet(CROWDED_LINK, answer.detail),
             _ => (),
         }
@@ -400,8 +399,9 @@ fn groups_of_numbers() -> Vec<Group> {
 }
 
 fn groups_of_crowds() -> Vec<Group> {
-    let lengths = Length::ALL.map(Length::word);
-    let words = lengths.into_iter().chain(Order::ALL.map(Order::word));
+    let lengths = Length::ALL.map(Length::word).into_iter();
+    let steps = STEPS.map(|(_, word)| word);
+    let words = lengths.chain(steps).chain(Order::ALL.map(Order::word));
     let told = |word| group(&crowded_group(word), &[ANSWERED, "5", "6", "7"]);
     let mut groups: Vec<Group> = words.map(told).collect();
     groups.push(group(CROWDED_KEY, &Table::ALL.map(Table::mark)));
@@ -489,7 +489,7 @@ mod tests {
     }
 
     #[test]
-    fn a_crowd_is_met_by_its_length_and_its_order() {
+    fn a_crowd_is_met_by_its_length_its_records_and_their_order() {
         let mut coverage = Coverage::default();
         let crowded = Crowded {
             order: Order::Reversed,
@@ -504,6 +504,7 @@ mod tests {
         let gaps = coverage.gaps();
         let is_gap = |words: &str| gaps.contains(&words.to_string());
         assert!(!is_gap("many, short: 6") && is_gap("many, long: 6"));
+        assert!(!is_gap("many, up to 32: 6") && is_gap("many, up to 256: 6"));
         assert!(!is_gap("many, reversed: 6") && is_gap("many, by table: 6"));
         assert!(!is_gap("many, 6 of: CO") && is_gap("many, 6 of: AR"));
         assert!(is_gap("many, short: answered") && is_gap("many, 7, detail: 1"));

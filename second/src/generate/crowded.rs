@@ -70,6 +70,19 @@ impl Length {
     }
 }
 
+/// Steps in the number of records, by the most that each takes in.
+pub const STEPS: [(usize, &str); 4] = [
+    (32, "up to 32"),
+    (256, "up to 256"),
+    (2_048, "up to 2048"),
+    (usize::MAX, "above 2048"),
+];
+
+pub fn step_of(records: usize) -> &'static str {
+    let step = STEPS.iter().find(|(most, _)| records <= *most);
+    step.expect("the last step takes in any number").1
+}
+
 #[derive(Clone, Copy, Debug, PartialEq, Eq)]
 pub enum Order {
     ByTable,
@@ -480,6 +493,13 @@ mod tests {
             }
             assert_eq!(tables.len(), Table::ALL.len(), "seed {seed}");
         }
+    }
+
+    #[test]
+    fn a_step_takes_in_its_most() {
+        let steps = [0, 32, 33, 256, 257, 2_048, 2_049, 20_000].map(step_of);
+        let due = [0, 0, 1, 1, 2, 2, 3, 3].map(|step: usize| STEPS[step].1);
+        assert_eq!(steps, due);
     }
 
     #[test]

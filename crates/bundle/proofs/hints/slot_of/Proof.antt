@@ -9,10 +9,10 @@ use Rattle.bundle.proofs.hints.slot_of.Statement.{statement}
 use Rattle.bundle.proofs.hints.slot_of.Tie as tie
 
 abbrev Inv-loop : tie.InvT-loop
-Inv-loop hints number count slot₀ k₀ slot k = (slot < length hints) × (k ≤ 8)
+Inv-loop hints number count slot₀ k₀ slot k = (slot < length hints) × (k ≤ 16)
 
 abbrev μ-loop : tie.MeasureT-loop
-μ-loop hints number count slot₀ k₀ slot k = 8 - k
+μ-loop hints number count slot₀ k₀ slot k = 16 - k
 
 pub slot-of-spec : {M : Type 1} → statement M
 slot-of-spec =
