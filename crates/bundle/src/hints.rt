@@ -75,13 +75,17 @@ pub fn put(hints: &mut [u32], slot: usize, number: u64, place: usize)
     hints[slot] = ((number % TAGS + 1) * PLACES + place as u64) as u32;
 }
 
-// Keeps where a record stands, unless a record that is looked for by the same is kept already.
+// Keeps where a record stands, unless a record that is looked for by the same is kept already; one for all railways, which serves each, takes its place.
 fn note(hints: &mut [u32], table: u32, body: &[u8], at: usize)
     ensures { λ _. ⌜ KeepsHints at (now (hints .entry)) (now (hints .exit)) ⌝ }
 {
     let number = number(table, table == layout::RE, table, body);
     let slot = slot_of(hints, number);
     if place_at(hints, slot) == 0 {
+        put(hints, slot, number, at);
+        return;
+    }
+    if layout::company::is_all_railways(layout::fields::railway(body)) {
         put(hints, slot, number, at);
     }
 }
