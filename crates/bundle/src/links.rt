@@ -27,7 +27,7 @@ const BY_OFFER_AND_RAILWAY: u32 = 2;
 pub const LINKS: usize = 5;
 
 // How many records are near: so few that no link takes much longer than by the walk from the start alone.
-const FEW: usize = 64;
+const NEAR: usize = 64;
 
 fn row(table: u32, flag: u32, wants: u32, join: u32, detail: usize) -> Link
     ensures { λ r. ⌜ r ≡ linkOf table flag wants join detail ⌝ }
@@ -147,7 +147,7 @@ fn served_near<'a>(bundle: &'a [u8], link: Link, table: u32, r: &'a [u8], place:
 {
     let mut at = place;
     let mut k = 0;
-    while k < FEW {
+    while k < NEAR {
         if serves_at(bundle, link, table, r, at) {
             return at;
         }
