@@ -1,5 +1,5 @@
 /* The verdict beside plain C of the same rules, without and with a hash table, beside reading the bytes once and beside the engine's own record
- * check, which is its verdict on the bundle with its last field broken: verdicts [RUNS]. */
+ * check, which is its verdict on the bundle with its last field broken; then that check beside plain C's: verdicts [RUNS]. */
 #include "measure.h"
 #include "peers.h"
 
@@ -48,18 +48,32 @@ static void read_once(void *with) {
     seen = sum;
 }
 
-/* Returns the engine's time. */
-static double compare_at(int runs, struct recipe recipe, size_t size) {
+/* A bundle and the same one broken; says what it is. */
+static const char *make_both(struct recipe recipe, size_t size) {
+    static char what[80];
     make_bundle(&bundle, recipe, size);
     demand(is_sorted(&bundle), "a bundle made in the order of its keys is not");
     memcpy(&broken, &bundle, sizeof broken);
     break_last_field(&broken);
-    char what[80];
     snprintf(what, sizeof what, "%s, %zu KiB, %zu records", recipe.name, size / KIB, bundle.records);
+    return what;
+}
+
+static double time_of_check(int runs, verdict *by) { return time_of_verdict(runs, by, &broken, OFFERS_FIELD_BROKEN); }
+
+/* Returns the engine's time. */
+static double compare_at(int runs, struct recipe recipe, size_t size) {
+    const char *what = make_both(recipe, size);
     double took = tell_verdict(runs, what, &bundle);
     tell(what, took, "reading once", best_time(runs, read_once, &bundle));
-    tell(what, took, "record check", time_of_verdict(runs, offers_verdict, &broken, OFFERS_FIELD_BROKEN));
+    tell(what, took, "record check", time_of_check(runs, offers_verdict));
     return took;
+}
+
+static void compare_check(int runs, struct recipe recipe) {
+    const char *what = make_both(recipe, SIZE_LIST[0]);
+    double took = time_of_check(runs, offers_verdict);
+    tell(what, took, "plain C", time_of_check(runs, plain_verdict));
 }
 
 static void compare_recipe(int runs, struct recipe recipe) {
@@ -74,5 +88,7 @@ int main(int argc, char **argv) {
     tell_heading("The verdict");
     compare_on_damaged();
     for (int k = 0; k < TIMED_RECIPES; k++) compare_recipe(runs, *TIMED[k]);
+    tell_heading("The record check");
+    for (int k = 0; k < TIMED_RECIPES; k++) compare_check(runs, *TIMED[k]);
     return 0;
 }

@@ -26,7 +26,7 @@ pub place-here : (s : List ℕ) (p : ℕ) → IsPlace s p → (j : ℕ) × Here 
 place-here s p h = rw (h .1) at (here-at-place s (h .0))
 
 -- the bundle's start is one,
-pub start-is-place : (s : List ℕ) → IsPlace s 0
+start-is-place : (s : List ℕ) → IsPlace s 0
 start-is-place s = (length (placesOf s), List·getD-eq-default (placesOf s) 0 {n = length (placesOf s)} (omega arith))
 
 getD-zeros : (n k : ℕ) → _≡_ {A = ℕ} (getD (replicate n 0) k 0) 0
@@ -62,7 +62,7 @@ served-there s l r p h e = let x = place-here s p h in served-here s l r p (x .0
 
 -- so that a search may tell of it.
 pub found-here : (s : List ℕ) (l : Link) (r : Rec) (p j : ℕ) → Here s p j → servesAt s l r p ≡ true → Found s l r p
-found-here s l r p j h e b = let w = served-here s l r p j h e in (w .0, w .1)
+found-here s l r p j h e b = served-here s l r p j h e
 
 -- THE PLACE BEHIND a place is one of the walk's.
 pub here-behind : (s : List ℕ) (p j : ℕ) → Here s p j → (k : ℕ) × Here s (placeBehind s p) k

@@ -2,8 +2,8 @@
 -- Assumes nothing.
 use Prim.Native.Nat.{ℕ, _%_, _≤_, _<_}
 use mathlib.Core.Path.{_≡_, refl, _∙_, ap}
-use mathlib.Core.Bool.{Bool, true, false, cond, not, _&&_, _||_, and-false}
-use mathlib.Core.Logic.{⊎-elim}
+use mathlib.Core.Bool.{Bool, true, false, and-false}
+use mathlib.Core.Logic.{_⊎_, inl, inr, ⊎-elim}
 use mathlib.Core.List.{List, [], _∷_}
 use native.Mathlib.Omega.{arith}
 use native.Mathlib.Nat.{mod-lt}
@@ -49,24 +49,27 @@ module _ (tops : List ℕ) (t n : ℕ) where
       (λ l. ⊎-elim (λ a. rw (is-above l a .0, is-above l a .1) (above-tells l a)) (λ a. rw (not-above l a .0, not-above l a .1) (not-new (InTops tops) t n (λ k. a))) (side (getD tops t 0) n))
       (λ l. rw (no-such-kind l .0, no-such-kind l .1) (not-new (InTops tops) t n (λ k. absurd (omega arith)))) (side t (length tops))
 
--- BY MARKS: a number that leaves its print is seen, and a print left keeps what was seen
-mark-holds : (mark print : ℕ) → 0 < print → excludes (marked mark print) print ≡ false
-unfolding excludes marked
-mark-holds mark print l = go (eqb mark 0 || eqb mark print)
+-- BY MARKS: a mark becomes the print where nothing else was seen, and else says several;
+marked-as : (mark print : ℕ) → (((mark ≡ 0) ⊎ (mark ≡ print)) × (marked mark print ≡ print)) ⊎ (marked mark print ≡ 255)
+unfolding marked
+marked-as mark print = go (eqb mark 0) (eqb mark print) refl refl
   where
-    go : (b : Bool) → (eqb (cond b print 255) 0 || (not (eqb (cond b print 255) 255) && not (eqb (cond b print 255) print))) ≡ false
-    go true = simp (ne-eqb print 0 (λ e. omega arith), eq-eqb print print refl, and-false)
-    go false = refl
+    go : (a b : Bool) → eqb mark 0 ≡ a → eqb mark print ≡ b → (((mark ≡ 0) ⊎ (mark ≡ print)) × (marked mark print ≡ print)) ⊎ (marked mark print ≡ 255)
+    go true b p q = inl (inl (eqb-true mark 0 p), rw p)
+    go false true p q = inl (inr (eqb-true mark print q), rw (p, q))
+    go false false p q = inr (rw (p, q))
 
+-- so a number that leaves its print is seen,
+mark-holds : (mark print : ℕ) → 0 < print → excludes (marked mark print) print ≡ false
+unfolding excludes
+mark-holds mark print l =
+    ⊎-elim (λ m. rw (m .1) (simp (ne-eqb print 0 (λ e. omega arith), eq-eqb print print refl, and-false))) (λ m. rw m) (marked-as mark print)
+
+-- and a print left keeps what was seen,
 mark-keeps : (mark print other : ℕ) → excludes mark other ≡ false → excludes (marked mark print) other ≡ false
-unfolding excludes marked
-mark-keeps mark print other e = go (eqb mark 0) (eqb mark print) refl refl
-  where
-    go : (a b : Bool) → eqb mark 0 ≡ a → eqb mark print ≡ b
-        → (eqb (cond (a || b) print 255) 0 || (not (eqb (cond (a || b) print 255) 255) && not (eqb (cond (a || b) print 255) other))) ≡ false
-    go true b p q = never refl (rw p at e)
-    go false true p q = rw (eqb-true mark print q) at e
-    go false false p q = refl
+unfolding excludes
+mark-keeps mark print other e =
+    ⊎-elim (λ m. rw (m .1) (⊎-elim (λ z. never refl (rw z at e)) (λ z. rw z at e) (m .0))) (λ m. rw m) (marked-as mark print)
 
 -- in two cases: there is no mark,
 pub no-mark : (marks : List ℕ) (n : ℕ) → length marks ≡ 0 → (isUnmarked marks n ≡ false) × (remarked marks n ≡ marks)
