@@ -1,16 +1,17 @@
 -- What a sound book and a sound entry have, test by test.
 -- Assumes nothing.
 use Prim.Native.Nat.{ℕ, _+_, _-_, _≤_, _<_}
-use mathlib.Core.Path.{_≡_, sym, _∙_, ap}
+use mathlib.Core.Path.{_≡_, refl, sym, _∙_, ap}
 use mathlib.Core.Bool.{true, _&&_}
-use mathlib.Core.List.{List}
+use mathlib.Core.Logic.{⊎-elim}
+use mathlib.Core.List.{List, [], _∷_}
 use native.Mathlib.Omega.{arith}
 use lib.Dec.{leb}
 use lib.ListN.{length, getD, drop}
 use lib.Seq.{getD-drop}
-use borrow.Author.Tests.{eqb-true, leb-true, eq-eqb, le-leb}
+use borrow.Author.Tests.{eqb-true, leb-true, eq-eqb, ne-eqb, le-leb, lt-leb}
 use Rattle.common.specs.Lists.{every, same}
-use Rattle.common.proofs.Tests.{both-true}
+use Rattle.common.proofs.Tests.{both-true, side}
 use Rattle.common.proofs.Lists.{every-at, zero-at, upto-length, upto-at, first-length, first-at}
 use Rattle.fares.specs.Question.{between, noLeg, legsOf, legInLimits, cardSlots, cardsDiffer, limitsOf, inLimits}
 use Rattle.fares.proofs.FareLaws.{asked as asked-of}
@@ -90,6 +91,15 @@ zero-from xs n z k l =
 
 pub no-part : (e : Entry) → entrySound e ≡ true → (k : ℕ) → questionOf (e .asked) .count ≤ k → getD (e .parts) k 0 ≡ 0
 no-part e g = zero-from (e .parts) (questionOf (e .asked) .count) (sound-entry e g .unused)
+
+-- words that are at most 0 are zero
+at-most-zero : (x : ℕ) → leb x 0 ≡ isZero x
+at-most-zero x = ⊎-elim (λ h. lt-leb x 0 h ∙ sym (ne-eqb x 0 (λ e. omega arith))) (λ h. le-leb x 0 h ∙ sym (eq-eqb x 0 (omega arith))) (side 0 x)
+
+pub bounded-by-zero : (xs : List ℕ) → isBounded 0 xs ≡ every isZero xs
+unfolding every
+bounded-by-zero [] = refl
+bounded-by-zero (x ∷ xs) = rw (at-most-zero x, bounded-by-zero xs)
 
 -- the largest word; a sequence within its limits is one word
 abbrev pub most : ℕ

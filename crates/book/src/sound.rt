@@ -6,7 +6,7 @@ ghost use mathlib.Core.Bool.{true};
 ghost use Rattle.common.specs.Lists.{every, upTo};
 ghost use Rattle.fares.specs.Question.{legInLimits};
 ghost use Rattle.book.specs.Words.{capacity, startOf, width, questionWidth, legOf, questionOf, entryOf, entryAt};
-ghost use Rattle.book.specs.Sound.{numberInLimits, askedSound, isBounded, entrySound, soundWords};
+ghost use Rattle.book.specs.Sound.{numberInLimits, askedSound, entrySound, soundWords};
 use super::words::ASKED;
 use super::words::CAPACITY;
 use super::words::COUNT;
@@ -38,19 +38,6 @@ pub fn is_number(till: u32, sequence: u64) -> bool
         return false;
     }
     sequence <= 4294967295
-}
-
-// No early way out, as in `layout::rules::text`.
-fn all_bounded(parts: &[u32], bound: u32) -> bool
-    ensures { λ r. ⌜ r ≡ isBounded bound (now (parts .entry)) ⌝ }
-{
-    let mut good = true;
-    let mut k = 0;
-    while k < parts.len() {
-        good = common::both(good, parts[k] <= bound);
-        k += 1;
-    }
-    good
 }
 
 // Whether the first legs that words say are within their limits.
@@ -101,7 +88,7 @@ fn entry_sound(words: &[u32]) -> bool
     if !asked_sound(&words[ASKED..PARTS], cards) {
         return false;
     }
-    if !all_bounded(&words[PARTS..STATUS], fares::limits::part_bound(cards)) {
+    if !super::words::all_bounded(&words[PARTS..STATUS], fares::limits::part_bound(cards)) {
         return false;
     }
     let first = PARTS + (words[LEG_COUNT] as usize);

@@ -3,8 +3,8 @@ ghost use mathlib.Core.Path.{_≡_};
 ghost use Prim.Native.Nat.{_+_, _≤_, _<_};
 ghost use lib.ListN.{length, take, drop};
 ghost use Rattle.common.specs.Lists.{every, same};
-ghost use Rattle.book.specs.Words.{questionWidth, bookLength, railwayAt, legAt, legOf, questionWords, questionOf};
-ghost use Rattle.book.specs.Sound.{isZero};
+ghost use Rattle.book.specs.Words.{questionWidth, railwayAt, legAt, legOf, questionWords, questionOf};
+ghost use Rattle.book.specs.Sound.{isZero, isBounded};
 ghost use Rattle.book.specs.Helpers.{legsClear, unusedZero};
 use fares::Leg;
 use fares::Question;
@@ -145,18 +145,23 @@ pub fn says(words: &[u32], q: Question) -> bool
     alike as usize == QUESTION_WIDTH
 }
 
-// Whether all words are zero: their sum is, which a processor adds up many words at a time.
-pub fn all_zero(words: &[u32]) -> bool
-    requires { ⌜ length (now words) ≤ bookLength ⌝ }
-    ensures { λ r. ⌜ r ≡ every isZero (now (words .entry)) ⌝ }
+// Whether no word is above a bound. No early way out, as in `layout::rules::text`.
+pub fn all_bounded(words: &[u32], bound: u32) -> bool
+    ensures { λ r. ⌜ r ≡ isBounded bound (now (words .entry)) ⌝ }
 {
-    let mut sum: u64 = 0;
+    let mut good = true;
     let mut k = 0;
     while k < words.len() {
-        sum += words[k] as u64;
+        good = common::both(good, words[k] <= bound);
         k += 1;
     }
-    sum == 0
+    good
+}
+
+pub fn all_zero(words: &[u32]) -> bool
+    ensures { λ r. ⌜ r ≡ every isZero (now (words .entry)) ⌝ }
+{
+    all_bounded(words, 0)
 }
 
 // Whether two words of each of the first legs, which are kept zero, are.
@@ -178,25 +183,13 @@ fn legs_clear(words: &[u32], count: usize) -> bool
     true
 }
 
-fn sum_of_four(first: u32, second: u32, third: u32, fourth: u32) -> u64
-    ensures { λ r. ⌜ r ≡ first + second + third + fourth ⌝ }
-{
-    first as u64 + second as u64 + third as u64 + fourth as u64
-}
-
-// Whether all words of the legs from one on are zero: a leg's four are added up at once.
+// Whether all words of the legs from one on are zero.
 fn legs_zero(words: &[u32], first: usize) -> bool
     requires { ⌜ (length (now words) ≡ questionWidth) × (first ≤ 8) ⌝ }
     ensures { λ r. ⌜ r ≡ every isZero (drop (railwayAt first) (now (words .entry))) ⌝ }
 {
-    let mut sum: u64 = 0;
-    let mut j = first;
-    while j < 8 {
-        let at = LEGS + LEG_WIDTH * j;
-        sum += sum_of_four(words[at], words[at + 1], words[at + 2], words[at + 3]);
-        j += 1;
-    }
-    sum == 0
+    let at = LEGS + LEG_WIDTH * first;
+    all_zero(&words[at..QUESTION_WIDTH])
 }
 
 // Whether what a question of so many legs does not use is zero.
