@@ -183,13 +183,25 @@ fn legs_clear(words: &[u32], count: usize) -> bool
     true
 }
 
-// Whether all words of the legs from one on are zero.
+fn sum_of_four(first: u32, second: u32, third: u32, fourth: u32) -> u64
+    ensures { λ r. ⌜ r ≡ first + second + third + fourth ⌝ }
+{
+    first as u64 + second as u64 + third as u64 + fourth as u64
+}
+
+// Whether all words of the legs from one on are zero: a leg's four are added up at once.
 fn legs_zero(words: &[u32], first: usize) -> bool
     requires { ⌜ (length (now words) ≡ questionWidth) × (first ≤ 8) ⌝ }
     ensures { λ r. ⌜ r ≡ every isZero (drop (railwayAt first) (now (words .entry))) ⌝ }
 {
-    let at = LEGS + LEG_WIDTH * first;
-    all_zero(&words[at..QUESTION_WIDTH])
+    let mut sum: u64 = 0;
+    let mut j = first;
+    while j < 8 {
+        let at = LEGS + LEG_WIDTH * j;
+        sum += sum_of_four(words[at], words[at + 1], words[at + 2], words[at + 3]);
+        j += 1;
+    }
+    sum == 0
 }
 
 // Whether what a question of so many legs does not use is zero.

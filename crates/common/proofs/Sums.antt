@@ -78,11 +78,6 @@ sum-up-small f b (suc k) h =
       suc-mul k b,
     )
 
--- the sum of one word more
-pub sum-taken : (xs : List ℕ) (k : ℕ) → k < length xs → sum (take (k + 1) xs) ≡ sum (take k xs) + getD xs k 0
-unfolding sum
-sum-taken xs k l = rw (add-one, take-suc xs k 0 l) (omega (arith, sum-append (take k xs) (getD xs k 0 ∷ [])))
-
 -- a sum is zero exactly if each of its words is
 zero-by : (x n : ℕ) (b : Bool) → eqb x 0 ≡ b → eqb (x + n) 0 ≡ (b && eqb n 0)
 zero-by x n true e = let x0 : x ≡ 0 = eqb-true x 0 e in let z : x + n ≡ n = omega arith in ap (λ m. eqb m 0) z
