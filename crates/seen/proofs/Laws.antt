@@ -2,7 +2,7 @@
 -- Assumes nothing.
 use Prim.Native.Nat.{ℕ, _%_, _≤_, _<_}
 use mathlib.Core.Path.{_≡_, refl, _∙_, ap}
-use mathlib.Core.Bool.{Bool, true, false, and-false}
+use mathlib.Core.Bool.{Bool, true, false, and-false, or-true}
 use mathlib.Core.Logic.{_⊎_, inl, inr, ⊎-elim}
 use mathlib.Core.List.{List, [], _∷_}
 use native.Mathlib.Omega.{arith}
@@ -135,3 +135,11 @@ module _ (tops marks : List ℕ) (t n : ℕ) where
         (tops-tell tops t n .1, marks-tell marks n .1),
         λ u m s. (tops-tell tops t n .2 u m (s .0), marks-tell marks n .2 u m (s .1)),
       )
+
+  -- WHEN IT IS TOLD, so that the short way is taken: above all of its kind, and where nothing left a mark.
+  pub above-is-new : t < length tops → getD tops t 0 < n → isNew tops marks t n ≡ true
+  above-is-new l a = rw (is-above tops t n l a .0)
+
+  pub unmarked-is-new : 0 < length marks → markOf marks n ≡ 0 → isNew tops marks t n ≡ true
+  unfolding excludes
+  unmarked-is-new l e = rw (by-mark marks n l, e, or-true)

@@ -7,7 +7,7 @@ use Rattle.bundle.proofs.hints.put.Statement.{statement}
 use Rattle.bundle.proofs.hints.put.Tie as tie
 
 returns-3 : tie.Need-returns-3
-returns-3 c = let a = c .before .before .args in hint-put (a .hints .now) (a .slot) (a .place) (a .number % 2039 + 1) (c .if2 .left)
+returns-3 c = let a = c .before .before .args in hint-put (a .hints .now) (a .slot) (a .place) _ (c .if2 .left)
 
 pub put-spec : {M : Type 1} → statement M
 put-spec =
