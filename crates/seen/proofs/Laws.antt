@@ -13,7 +13,7 @@ use lib.Seq.{getD-set-same}
 use borrow.Author.Tests.{eqb-true, eq-eqb, ne-eqb, lt-ltb, le-ltb}
 use Rattle.common.proofs.Lists.{after-store}
 use Rattle.common.proofs.Tests.{never, side}
-use Rattle.seen.specs.Seen.{isAbove, raised, printOf, excludes, marked, markOf, isUnmarked, remarked, isNew, InTops, InMarks, Seen, Tells}
+use Rattle.seen.specs.Seen.{isAbove, raised, several, printOf, excludes, marked, markOf, isUnmarked, remarked, isNew, InTops, InMarks, Seen, Tells}
 
 -- what is seen already is not told to be new
 not-new : (P : ℕ → ℕ → Type 0) (t n : ℕ) → P t n → Tells P P t n false
@@ -50,11 +50,11 @@ module _ (tops : List ℕ) (t n : ℕ) where
       (λ l. rw (no-such-kind l .0, no-such-kind l .1) (not-new (InTops tops) t n (λ k. absurd (omega arith)))) (side t (length tops))
 
 -- BY MARKS: a mark becomes the print where nothing else was seen, and else says several;
-marked-as : (mark print : ℕ) → (((mark ≡ 0) ⊎ (mark ≡ print)) × (marked mark print ≡ print)) ⊎ (marked mark print ≡ 255)
+marked-as : (mark print : ℕ) → (((mark ≡ 0) ⊎ (mark ≡ print)) × (marked mark print ≡ print)) ⊎ (marked mark print ≡ several)
 unfolding marked
 marked-as mark print = go (eqb mark 0) (eqb mark print) refl refl
   where
-    go : (a b : Bool) → eqb mark 0 ≡ a → eqb mark print ≡ b → (((mark ≡ 0) ⊎ (mark ≡ print)) × (marked mark print ≡ print)) ⊎ (marked mark print ≡ 255)
+    go : (a b : Bool) → eqb mark 0 ≡ a → eqb mark print ≡ b → (((mark ≡ 0) ⊎ (mark ≡ print)) × (marked mark print ≡ print)) ⊎ (marked mark print ≡ several)
     go true b p q = inl (inl (eqb-true mark 0 p), rw p)
     go false true p q = inl (inr (eqb-true mark print q), rw (p, q))
     go false false p q = inr (rw (p, q))

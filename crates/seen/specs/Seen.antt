@@ -14,15 +14,18 @@ isAbove tops t n = ltb t (length tops) && ltb (getD tops t 0) n
 unfoldable pub raised : List ℕ → ℕ → ℕ → List ℕ
 raised tops t n = cond (isAbove tops t n) (set tops t n) tops
 
--- BY MARKS, one at the remainder of each number: 0 where nothing was seen, 255 where numbers of several prints were, and else the print of all that were
+-- BY MARKS, one at the remainder of each number: 0 where nothing was seen, `several` where numbers of several prints were, and else the print of all that were
+abbrev pub several : ℕ
+several = 255
+
 abbrev pub printOf : ℕ → ℕ → ℕ
 printOf m n = n / m % 254 + 1
 
 unfoldable pub excludes : ℕ → ℕ → Bool
-excludes mark print = eqb mark 0 || (not (eqb mark 255) && not (eqb mark print))
+excludes mark print = eqb mark 0 || (not (eqb mark several) && not (eqb mark print))
 
 unfoldable pub marked : ℕ → ℕ → ℕ
-marked mark print = cond (eqb mark 0 || eqb mark print) print 255
+marked mark print = cond (eqb mark 0 || eqb mark print) print several
 
 abbrev pub markOf : List ℕ → ℕ → ℕ
 markOf marks n = getD marks (n % length marks) 0
