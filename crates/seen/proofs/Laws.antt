@@ -2,7 +2,7 @@
 -- Assumes nothing.
 use Prim.Native.Nat.{ℕ, _%_, _≤_, _<_}
 use mathlib.Core.Path.{_≡_, refl, _∙_, ap}
-use mathlib.Core.Bool.{Bool, true, false, and-false, or-true}
+use mathlib.Core.Bool.{Bool, true, false, cond, and-false, or-true}
 use mathlib.Core.Logic.{_⊎_, inl, inr, ⊎-elim}
 use mathlib.Core.List.{List, [], _∷_}
 use native.Mathlib.Omega.{arith}
@@ -19,21 +19,25 @@ use Rattle.seen.specs.Seen.{isAbove, raised, several, printOf, excludes,
 not-new : (P : ℕ → ℕ → Type 0) (t n : ℕ) → P t n → Tells P P t n false
 not-new P t n h = ((λ e. never e refl), h, λ u m k. k)
 
--- BY THE GREATEST NUMBER OF EACH KIND, in three cases
+-- BY THE GREATEST NUMBER OF EACH KIND, in three cases; what is kept goes by what is told
 module _ (tops : List ℕ) (t n : ℕ) where
+  kept : (b : Bool) → isAbove tops t n ≡ b → (isAbove tops t n ≡ b) × (raised tops t n ≡ cond b (set tops t n) tops)
+  unfolding raised
+  kept b e = (e, rw e)
+
   pub no-such-kind : length tops ≤ t → (isAbove tops t n ≡ false) × (raised tops t n ≡ tops)
-  unfolding isAbove raised
-  no-such-kind l = (simp (le-ltb t (length tops) l), simp (le-ltb t (length tops) l))
+  unfolding isAbove
+  no-such-kind l = kept false (simp (le-ltb t (length tops) l))
 
   module _ (l : t < length tops) where
     pub not-above : n ≤ getD tops t 0 → (isAbove tops t n ≡ false) × (raised tops t n ≡ tops)
-    unfolding isAbove raised
-    not-above a = (simp (lt-ltb t (length tops) l, le-ltb (getD tops t 0) n a), simp (lt-ltb t (length tops) l, le-ltb (getD tops t 0) n a))
+    unfolding isAbove
+    not-above a = kept false (simp (lt-ltb t (length tops) l, le-ltb (getD tops t 0) n a))
 
     module _ (a : getD tops t 0 < n) where
       pub is-above : (isAbove tops t n ≡ true) × (raised tops t n ≡ set tops t n)
-      unfolding isAbove raised
-      is-above = (simp (lt-ltb t (length tops) l, lt-ltb (getD tops t 0) n a), simp (lt-ltb t (length tops) l, lt-ltb (getD tops t 0) n a))
+      unfolding isAbove
+      is-above = kept true (simp (lt-ltb t (length tops) l, lt-ltb (getD tops t 0) n a))
 
       keeps : (u m : ℕ) → InTops tops u m → InTops (set tops t n) u m
       keeps u m h k =

@@ -1,6 +1,5 @@
 -- `bundle::hints::put` meets its contract.
 -- Assumes nothing.
-use Prim.Native.Nat.{_+_, _%_}
 use borrow.Author.Needs.{needs}
 use Rattle.bundle.proofs.HintedPlaces.{hint-put}
 use Rattle.bundle.proofs.hints.put.Statement.{statement}
