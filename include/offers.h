@@ -1,7 +1,7 @@
-/* The offer engine for C and C++. Link with libedge.a (x86-64 Linux), which needs no other library.
+/* The offer engine for C and C++. Link with liboffers.a, which tools/library builds for x86-64 and for 64-bit Arm Linux.
  *
- * Every call answers for every argument. It checks bundle, question and book itself, reads nothing but what it is lent, writes nothing
- * but the book of a sale or a cancel, and keeps nothing between calls. What no call can check:
+ * Every call answers for every argument. It checks bundle, question and book itself, reads nothing but what it is lent,
+ * writes nothing but the book of a sale or a cancel, and keeps nothing between calls. What no call can check:
  *
  * - that behind each pointer lie as many bytes (bundle) or 32-bit words (book) as its length says. NULL will do where the length is 0;
  * - that a book is aligned for uint32_t. A bundle may lie anywhere;
@@ -19,6 +19,12 @@
 #ifdef __cplusplus
 extern "C" {
 #endif
+
+/* The version of the engine: a change of the first number changes what a program that was compiled before may rely on. */
+#define OFFERS_VERSION "1.0.0"
+#define OFFERS_VERSION_MAJOR 1
+#define OFFERS_VERSION_MINOR 0
+#define OFFERS_VERSION_PATCH 0
 
 /* The numbers of refusals: when; place, detail (0 where nothing is said). A call tells the first that it comes to. */
 enum offers_number {
@@ -41,7 +47,7 @@ enum offers_number {
     OFFERS_NUMBER_LIMITS = 22,     /* till is not 1 to 65,535, or sequence not 1 to 4,294,967,295 */
     OFFERS_NUMBER_TAKEN = 23,      /* the sale number is held by another question; entry */
     OFFERS_BOOK_FULL = 24,         /* a new sale number, and 256 entries */
-    OFFERS_SALE_UNKNOWN = 25       /* a cancel of an unknown sale number */
+    OFFERS_SALE_UNKNOWN = 25       /* no such sale in the book */
 };
 
 /* What came of a sale or a cancel. */
@@ -53,8 +59,27 @@ enum offers_outcome {
     OFFERS_ALREADY_CANCELLED = 4
 };
 
+/* Whether a sale in a book is cancelled. */
+enum offers_status {
+    OFFERS_LIVE = 0,
+    OFFERS_WAS_CANCELLED = 1
+};
+
 /* The words of a book: any other length is unsound. A new book is this many zeros; keep it as it stands between calls. */
 #define OFFERS_BOOK_WORDS 16385
+#define OFFERS_MOST_ENTRIES 256
+
+/* The limits of what is asked. */
+#define OFFERS_MOST_BUNDLE_BYTES 1048576
+#define OFFERS_MOST_LEGS 8
+#define OFFERS_MOST_CARDS 4
+#define OFFERS_MOST_PERSONS 99
+#define OFFERS_LARGEST_OFFER 99999
+#define OFFERS_LARGEST_RAILWAY 9999
+#define OFFERS_LARGEST_CARD 999
+#define OFFERS_LARGEST_PLAIN_FARE 999999
+#define OFFERS_LARGEST_TILL 65535
+#define OFFERS_LARGEST_SEQUENCE 4294967295u
 
 typedef struct {
     uint32_t railway; /* 1 to 9999 */
@@ -65,9 +90,9 @@ typedef struct {
     uint32_t offer;     /* 1 to 99,999 */
     uint32_t day;       /* YYYYMMDD, a real date of the years 1583 to 9999 */
     uint32_t persons;   /* 1 to 99 */
-    uint32_t cards[4];  /* up to four of 1 to 999, all different, then zeros; their order is part of the question */
+    uint32_t cards[OFFERS_MOST_CARDS];  /* up to four of 1 to 999, all different, then zeros; their order is part of the question */
     uint32_t count;     /* legs, 1 to 8; what stands in `legs` after them does not matter */
-    offers_leg legs[8];
+    offers_leg legs[OFFERS_MOST_LEGS];
 } offers_question;
 
 typedef struct {
@@ -78,20 +103,35 @@ typedef struct {
 typedef struct {
     uint64_t number, place, detail;
     uint64_t fare;     /* the sum of the parts, in cents */
-    uint32_t parts[8]; /* one a leg, zeros after them */
+    uint32_t parts[OFFERS_MOST_LEGS]; /* one a leg, zeros after them */
 } offers_quote;
 
 typedef struct {
     uint64_t number, place, detail;
     uint32_t outcome;   /* enum offers_outcome */
     uint32_t cancelled; /* 1 if the sale is cancelled now, else 0 */
-    uint32_t parts[8];  /* as priced at the first booking */
+    uint32_t parts[OFFERS_MOST_LEGS];  /* as priced at the first booking */
 } offers_receipt;
 
 typedef struct {
     uint64_t number, place, detail;
     uint64_t amount; /* in cents */
 } offers_sum;
+
+typedef struct {
+    uint64_t number, place, detail;
+    uint64_t entries;
+} offers_tally;
+
+typedef struct {
+    uint64_t number, place, detail;
+    uint64_t entry;    /* which entry of the book it is */
+    uint64_t sequence;
+    uint32_t till;
+    uint32_t status;   /* enum offers_status */
+    offers_question question; /* with zeros in the slots of `legs` that are not used */
+    uint32_t parts[OFFERS_MOST_LEGS];  /* as priced at the first booking */
+} offers_booking;
 
 /* Judges a bundle, of any length: 1 to 7, or the count of its records. */
 offers_judgement offers_verdict(const uint8_t *bundle, size_t length);
@@ -112,6 +152,15 @@ offers_sum offers_balance(const uint32_t *book, size_t words, uint32_t railway);
 
 /* What all railways are owed: 21. */
 offers_sum offers_total(const uint32_t *book, size_t words);
+
+/* How many sales the book has, cancelled ones too: 21. */
+offers_tally offers_count(const uint32_t *book, size_t words);
+
+/* The sale at an entry of the book, in the order of booking: 21, then 25 from the count on. */
+offers_booking offers_entry(const uint32_t *book, size_t words, size_t entry);
+
+/* The sale that has a number, as the book has it: 21, 22, 25. Nothing is booked. */
+offers_booking offers_find(const uint32_t *book, size_t words, uint32_t till, uint64_t sequence);
 
 #ifdef __cplusplus
 }
