@@ -1,15 +1,17 @@
 // The entries of a book, one at a time.
 ghost use mathlib.Core.Path.{_≡_};
-ghost use Prim.Native.Nat.{_+_, _≤_};
-ghost use lib.ListN.{length};
+ghost use Prim.Native.Nat.{_+_, _≤_, _<_};
+ghost use lib.ListN.{length, getD};
 ghost use Rattle.common.specs.Lists.{same};
-ghost use Rattle.book.specs.Words.{width, startOf, countOf, entryAt, entries, questionWords};
+ghost use Rattle.book.specs.Words.{width, startOf, countOf, entryWords, entryAt, entries, questionOf, questionWords};
 ghost use Rattle.book.specs.Sound.{heldAt};
 use super::words::ASKED;
 use super::words::ENTRIES;
 use super::words::ENTRY_COUNT;
 use super::words::PARTS;
+use super::words::SEQUENCE;
 use super::words::STATUS;
+use super::words::TILL;
 use super::words::WIDTH;
 use fares::Question;
 
@@ -42,6 +44,42 @@ pub fn asks(book: &[u32], place: usize, q: Question) -> bool
     super::words::says(&book[asked..parts], q)
 }
 
+// A word of an entry.
+fn word_of(book: &[u32], place: usize, word: usize) -> u32
+    requires { ⌜ (startOf place + width ≤ length (now book)) × (word < width) ⌝ }
+    ensures { λ r. ⌜ r ≡ getD (entryWords (now (book .entry)) place) word 0 ⌝ }
+{
+    let at = ENTRIES + place * WIDTH;
+    book[at + word]
+}
+
+// The till of an entry.
+pub fn till_of(book: &[u32], place: usize) -> u32
+    requires { ⌜ startOf place + width ≤ length (now book) ⌝ }
+    ensures { λ r. ⌜ r ≡ entryAt (now (book .entry)) place .till ⌝ }
+{
+    word_of(book, place, TILL)
+}
+
+// The sequence of an entry.
+pub fn sequence_of(book: &[u32], place: usize) -> u32
+    requires { ⌜ startOf place + width ≤ length (now book) ⌝ }
+    ensures { λ r. ⌜ r ≡ entryAt (now (book .entry)) place .sequence ⌝ }
+{
+    word_of(book, place, SEQUENCE)
+}
+
+// The question of an entry.
+pub fn question_of(book: &[u32], place: usize) -> Question
+    requires { ⌜ startOf place + width ≤ length (now book) ⌝ }
+    ensures { λ r. ⌜ r ≡ questionOf (entryAt (now (book .entry)) place .asked) ⌝ }
+{
+    let at = ENTRIES + place * WIDTH;
+    let asked = at + ASKED;
+    let parts = at + PARTS;
+    super::words::question_in(&book[asked..parts])
+}
+
 // The parts of an entry.
 pub fn parts_of(book: &[u32], place: usize) -> [u32; 8]
     requires { ⌜ startOf place + width ≤ length (now book) ⌝ }
@@ -56,6 +94,5 @@ pub fn status_of(book: &[u32], place: usize) -> u32
     requires { ⌜ startOf place + width ≤ length (now book) ⌝ }
     ensures { λ r. ⌜ r ≡ entryAt (now (book .entry)) place .status ⌝ }
 {
-    let at = ENTRIES + place * WIDTH;
-    book[at + STATUS]
+    word_of(book, place, STATUS)
 }

@@ -2,7 +2,7 @@
 ghost use mathlib.Core.Path.{_≡_};
 ghost use Prim.Native.Nat.{_+_, _≤_, _<_};
 ghost use lib.ListN.{length, take, drop};
-ghost use Rattle.common.specs.Lists.{every, same};
+ghost use Rattle.common.specs.Lists.{every, same, upTo};
 ghost use Rattle.book.specs.Words.{questionWidth, railwayAt, legAt, legOf, questionWords, questionOf};
 ghost use Rattle.book.specs.Sound.{isZero, isBounded};
 ghost use Rattle.book.specs.Helpers.{legsClear, unusedZero};
@@ -126,6 +126,38 @@ pub fn cards_in(words: &[u32]) -> [u32; 4]
         words[CARDS + 2],
         words[CARDS + 3],
     ]
+}
+
+// The legs that a question's words say.
+fn legs_in(words: &[u32]) -> [Leg; 8]
+    requires { ⌜ length (now words) ≡ questionWidth ⌝ }
+    ensures { λ r. ⌜ r ≡ upTo (legOf (now (words .entry))) 8 ⌝ }
+{
+    let mut legs = [Leg {
+        railway: 0,
+        fare: 0,
+    }; 8];
+    let mut j = 0;
+    while j < 8 {
+        legs[j] = leg_in(words, j);
+        j += 1;
+    }
+    legs
+}
+
+// The question that words say.
+pub fn question_in(words: &[u32]) -> Question
+    requires { ⌜ length (now words) ≡ questionWidth ⌝ }
+    ensures { λ r. ⌜ r ≡ questionOf (now (words .entry)) ⌝ }
+{
+    Question {
+        offer: words[OFFER],
+        day: words[DAY],
+        persons: words[PERSONS],
+        cards: cards_in(words),
+        count: words[COUNT],
+        legs: legs_in(words),
+    }
 }
 
 // Whether words are those of a question: as many are alike as there are, which a processor counts several at a time.
