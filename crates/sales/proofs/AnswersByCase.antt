@@ -1,6 +1,6 @@
 -- What the answers on a sale and a cancellation come to, case by case as the code finds them; and that what is written follows from the answer.
 -- Assumes nothing.
-use Prim.Native.Nat.{ℕ, _≤_, _<_}
+use Prim.Native.Nat.{ℕ, _+_, _≤_, _<_}
 use mathlib.Core.Path.{_≡_, refl, _∙_, ap, subst}
 use mathlib.Core.Bool.{Bool, true, false, cond, not, _&&_}
 use mathlib.Core.List.{List, [], _∷_}
@@ -14,20 +14,22 @@ use borrow.Author.Tests.{lt-ltb, le-ltb, le-leb, lt-leb, leb-false, ltb-true, no
 use Rattle.common.specs.Lists.{same}
 use Rattle.common.specs.Checks.{refuse, Finding, clean, fault, check, unless, firstFault}
 use Rattle.common.specs.declared.Refusal.{Refusal}
-use Rattle.common.proofs.Checks.{one-clean}
+use Rattle.common.proofs.Checks.{by-finding, one-clean}
 use Rattle.bundle.specs.Records.{recordsOf}
 use Rattle.fares.specs.Fare.{partsOf, fareChecks, quoted, fareOf}
 use Rattle.fares.specs.declared.Question.{Question}
 use Rattle.fares.specs.declared.Pricing.the-variants.{Priced, Refused as NoFare}
-use Rattle.book.specs.Words.{Entry, entryAt, capacity, countOf, entries, questionWords, booking}
+use Rattle.book.specs.Words.{Entry, width, startOf, entryAt, capacity, countOf, entries, questionWords, booking}
 use Rattle.book.specs.Sound.{numberInLimits, soundWords}
-use Rattle.sales.specs.Sales.{noReceipt, receipt, isClean, place, isPresent, present, saleChecks, saleAnswer, isBooked, saleWords, cancelChecks, cancelAnswer, isCancelled, cancelWords}
+use Rattle.sales.specs.Sales.{noReceipt, receipt, cancelReceipt, isClean, place, isPresent, present, saleChecks, saleAnswer, isBooked, saleWords, cancelChecks, cancelAnswer, isCancelled, cancelWords}
 use Rattle.sales.specs.declared.Outcome.{Outcome}
 use Rattle.sales.specs.declared.Outcome.the-variants.{Booked, AlreadyBooked, Cancelled, AlreadyCancelled}
 use Rattle.sales.specs.declared.Receipt.{Receipt}
-use Rattle.sales.specs.Helpers.{againAnswer, firstAnswer}
+use Rattle.sales.specs.Helpers.{lookedUp, againAnswer, firstAnswer}
+use Rattle.sales.specs.Reading.{noBooking, bookingAt, findAnswer}
+use Rattle.sales.specs.declared.reading.Looked.the-variants.{At, Refused as NotThere}
 use Rattle.sales.proofs.Outcome.{the-type}
-use Rattle.book.proofs.SoundBook.{entry-is, entries-length}
+use Rattle.book.proofs.SoundBook.{is-sound, entry-is, entries-length}
 use Rattle.book.specs.Changes.{added, cancelledAt}
 
 module _ (w : List ℕ) (t s : ℕ) where
@@ -77,29 +79,77 @@ module _ (w : List ℕ) (t s : ℕ) where
           unfolding saleAnswer saleChecks firstFault firstAnswer
           sale-first f = rw (ok, n, is-absent l, entries-length w, lt-leb capacity (countOf w) f)
 
-  pub cancel-unsound : soundWords w ≡ false → cancelAnswer w t s ≡ noReceipt (refuse 21 0 0)
-  unfolding cancelAnswer cancelChecks firstFault
-  cancel-unsound e = rw e
+  -- A NUMBER LOOKED FOR, as a cancellation and a find look: 21, 22, 25, or nothing is against it
+  abbrev pub looked : Finding
+  looked = firstFault (cancelChecks w t s)
+
+  pub looked-unsound : soundWords w ≡ false → looked ≡ fault (refuse 21 0 0)
+  unfolding cancelChecks firstFault
+  looked-unsound e = rw e
 
   module _ (ok : soundWords w ≡ true) where
-    pub cancel-no-number : numberInLimits t s ≡ false → cancelAnswer w t s ≡ noReceipt (refuse 22 0 0)
-    unfolding cancelAnswer cancelChecks firstFault
-    cancel-no-number e = rw (ok, e)
+    pub looked-no-number : numberInLimits t s ≡ false → looked ≡ fault (refuse 22 0 0)
+    unfolding cancelChecks firstFault
+    looked-no-number e = rw (ok, e)
 
     module _ (n : numberInLimits t s ≡ true) where
-      pub cancel-unknown : countOf w ≤ at → cancelAnswer w t s ≡ noReceipt (refuse 25 0 0)
-      unfolding cancelAnswer cancelChecks firstFault
-      cancel-unknown l = rw (ok, n, is-absent l)
+      pub looked-unknown : countOf w ≤ at → looked ≡ fault (refuse 25 0 0)
+      unfolding cancelChecks firstFault
+      looked-unknown l = rw (ok, n, is-absent l)
 
-      pub present-cancel : isPresent w t s ≡ true
-          → cancelAnswer w t s ≡ receipt (cond (eqb (present w t s .status) 0) Cancelled AlreadyCancelled) (present w t s .parts)
-      unfolding cancelAnswer cancelChecks firstFault
-      present-cancel l = rw (ok, n, l)
+      pub looked-present : isPresent w t s ≡ true → looked ≡ clean
+      unfolding cancelChecks firstFault
+      looked-present p = rw (ok, n, p)
 
-      pub cancel-known : at < countOf w
-          → cancelAnswer w t s ≡ receipt (cond (eqb (entryAt w at .status) 0) Cancelled AlreadyCancelled) (entryAt w at .parts)
-      cancel-known l =
-          present-cancel (is-present l) ∙ ap (λ (e : Entry). receipt (cond (eqb (e .status) 0) Cancelled AlreadyCancelled) (e .parts)) (the-present l)
+      pub looked-known : at < countOf w → looked ≡ clean
+      looked-known l = looked-present (is-present l)
+
+  pub found-there : looked ≡ clean → (soundWords w ≡ true) × (numberInLimits t s ≡ true) × (at < countOf w)
+  unfolding cancelChecks
+  found-there e =
+      let a = one-clean (not (soundWords w)) 21 0 0 _ e in
+      let n = one-clean (not (numberInLimits t s)) 22 0 0 _ (a .1) in
+      let d = one-clean (not (isPresent w t s)) 25 0 0 _ (n .1) in
+      let p = ltb-true at (length (entries w)) (not-false (isPresent w t s) (d .0)) in
+      (not-false (soundWords w) (a .0), not-false (numberInLimits t s) (n .0), rw (entries-length w) at p)
+
+  -- the place that is told of it
+  pub looked-up-refused : {why : Refusal} → lookedUp w t s ≡ NotThere why → looked ≡ fault why
+  unfolding lookedUp
+  looked-up-refused e = ⊎-elim (λ h. let z : _≡_ {A = ℕ} 0 1 = cc in absurd (omega arith)) (λ h. cc) (by-finding NotThere looked (At at) e)
+
+  module _ {i : ℕ} (e : lookedUp w t s ≡ At i) where
+    pub looked-up-at : (looked ≡ clean) × (at ≡ i)
+    unfolding lookedUp
+    looked-up-at = ⊎-elim (λ h. (h .0, cc)) (λ h. let z : _≡_ {A = ℕ} 0 1 = cc in absurd (omega arith)) (by-finding NotThere looked (At at) e)
+
+    pub looked-up-inside : startOf i + width ≤ length w
+    looked-up-inside =
+        let f = found-there (looked-up-at .0) in
+        let k = is-sound w (f .0) in
+        omega (arith, f .2, looked-up-at .1, k .long, k .few)
+
+    pub looked-up-entry : present w t s ≡ entryAt w i
+    looked-up-entry = the-present (found-there (looked-up-at .0) .2) ∙ ap (entryAt w) (looked-up-at .1)
+
+  -- the answers to a cancellation and to a find
+  module _ {why : Refusal} (e : looked ≡ fault why) where
+    pub cancel-refused : cancelAnswer w t s ≡ noReceipt why
+    unfolding cancelAnswer
+    cancel-refused = rw e
+
+    pub find-refused : findAnswer w t s ≡ noBooking why
+    unfolding findAnswer
+    find-refused = rw e
+
+  module _ (e : looked ≡ clean) where
+    pub cancel-answered : cancelAnswer w t s ≡ cancelReceipt (present w t s)
+    unfolding cancelAnswer
+    cancel-answered = rw e
+
+    pub find-answered : findAnswer w t s ≡ bookingAt at (present w t s)
+    unfolding findAnswer
+    find-answered = rw e
 
 -- a quote that is refused, and one that is priced
 module _ (b : List ℕ) (q : Question) where
@@ -181,9 +231,6 @@ module _ (w : List ℕ) (t s : ℕ) (b : List ℕ) (q : Question) where
     booked-writes = rw (told .0, told .1)
 
 module _ (w : List ℕ) (t s : ℕ) where
-  abbrev checked : Finding
-  checked = firstFault (cancelChecks w t s)
-
   abbrev isLive : Bool
   isLive = eqb (present w t s .status) 0
 
@@ -202,21 +249,15 @@ module _ (w : List ℕ) (t s : ℕ) where
 
   pub not-cancelled-stays : (cancelAnswer w t s .outcome ≡ Cancelled → ⊥) → cancelWords w t s ≡ w
   unfolding cancelAnswer cancelWords isCancelled
-  not-cancelled-stays n = rw (cancelled-not checked isLive n)
+  not-cancelled-stays n = rw (cancelled-not (looked w t s) isLive n)
 
   module _ (e : cancelAnswer w t s .outcome ≡ Cancelled) where
-    told-cancel : (checked ≡ clean) × (isLive ≡ true)
+    told-cancel : (looked w t s ≡ clean) × (isLive ≡ true)
     unfolding cancelAnswer
-    told-cancel = cancelled-only checked isLive e
+    told-cancel = cancelled-only (looked w t s) isLive e
 
     pub cancelled-sound : (soundWords w ≡ true) × (numberInLimits t s ≡ true) × (place w t s < countOf w)
-    unfolding cancelChecks
-    cancelled-sound =
-        let a = one-clean (not (soundWords w)) 21 0 0 _ (told-cancel .0) in
-        let n = one-clean (not (numberInLimits t s)) 22 0 0 _ (a .1) in
-        let d = one-clean (not (isPresent w t s)) 25 0 0 _ (n .1) in
-        let p = ltb-true (place w t s) (length (entries w)) (not-false (isPresent w t s) (d .0)) in
-        (not-false (soundWords w) (a .0), not-false (numberInLimits t s) (n .0), rw (entries-length w) at p)
+    cancelled-sound = found-there w t s (told-cancel .0)
 
     pub cancelled-writes : cancelWords w t s ≡ cancelledAt w (place w t s)
     unfolding cancelWords isCancelled

@@ -7,9 +7,9 @@ use mathlib.Core.List.{List}
 use mathlib.Core.Logic.{⊎-elim}
 use lib.Dec.{eqb, leb}
 use lib.ListN.{length, getD}
-use borrow.Author.Tests.{eq-eqb, le-leb}
+use borrow.Author.Tests.{eq-eqb, le-leb, lt-ltb, le-ltb}
 use Rattle.common.specs.Lists.{same}
-use Rattle.common.specs.Checks.{refuse, firstFault}
+use Rattle.common.specs.Checks.{clean, refuse, firstFault}
 use Rattle.common.specs.declared.Refusal.{Refusal}
 use Rattle.common.proofs.Lists.{every-at}
 use Rattle.common.proofs.Tests.{side, in-range, refuted}
@@ -28,15 +28,17 @@ use Rattle.book.proofs.ComparedWords.{same-words, other-words}
 use Rattle.book.proofs.NumbersDiffer.{has-number, held-here}
 use Rattle.book.proofs.QuestionWords.{asked-again}
 use Rattle.book.proofs.SoundBook.{IsSound, is-sound, sound-entry, few-legs, entry-is, entries-length}
-use Rattle.sales.specs.Sales.{receipt, noReceipt, place, isPresent, present, saleAnswer, cancelAnswer}
-use Rattle.sales.specs.declared.Outcome.the-variants.{Booked, AlreadyBooked, Cancelled, AlreadyCancelled}
+use Rattle.sales.specs.Sales.{receipt, noReceipt, cancelReceipt, place, isPresent, present, saleAnswer, cancelAnswer}
+use Rattle.sales.specs.Reading.{noBooking, bookingAt, countAnswer, entryAnswer, findAnswer}
+use Rattle.sales.specs.declared.Tally.the-variants.{Entries}
+use Rattle.sales.specs.declared.Outcome.the-variants.{Booked, AlreadyBooked}
 use Rattle.sales.specs.Balances.{balanceAnswer, totalAnswer}
 use Rattle.sales.specs.declared.Sum.the-variants.{Amount, Refused}
 use Rattle.sales.specs.History.{Number, isNumber}
 use Rattle.sales.specs.Helpers.{againAnswer}
 use Rattle.sales.proofs.SaleAndCancel.{at-place}
 use Rattle.sales.proofs.AnswersByCase.{sale-no-number, present-again, again-same, again-other, sale-full, sale-first, quote-priced, quote-refused}
-use Rattle.sales.proofs.AnswersByCase.{cancel-no-number, cancel-unknown, present-cancel}
+use Rattle.sales.proofs.AnswersByCase.{looked, looked-no-number, looked-unknown, looked-present, cancel-refused, cancel-answered, find-refused, find-answered}
 
 -- A BALANCE of a railway 1 to 9999, and of another, and THE TOTAL: what is due from the questions of the entries that are not cancelled
 module _ (book : List ℕ) (sound : Sound book) where
@@ -56,7 +58,20 @@ module _ (book : List ℕ) (sound : Sound book) where
   unfolding totalAnswer firstFault
   book-total = let f = means-sound book sound in rw f (ap Amount (total-due book f))
 
--- A SALE and A CANCELLATION
+  -- THE SALES: how many, one at an entry, and none from the count on
+  pub book-count : countAnswer book ≡ Entries (countOf book)
+  unfolding countAnswer firstFault
+  book-count = rw (means-sound book sound) (ap Entries (entries-length book))
+
+  pub sale-at : (i : ℕ) → i < countOf book → entryAnswer book i ≡ bookingAt i (entryAt book i)
+  unfolding entryAnswer firstFault
+  sale-at i l = rw (means-sound book sound, entries-length book, lt-ltb i (countOf book) l) (ap (bookingAt i) (entry-is book i l))
+
+  pub no-sale-at : (i : ℕ) → countOf book ≤ i → entryAnswer book i ≡ noBooking (refuse 25 0 0)
+  unfolding entryAnswer firstFault
+  no-sale-at i l = rw (means-sound book sound, entries-length book, le-ltb i (countOf book) l)
+
+-- A SALE, A CANCELLATION and A FIND
 module _ (book : List ℕ) (sound : Sound book) (n : Number) where
   abbrev t : ℕ
   t = n .till
@@ -72,7 +87,10 @@ module _ (book : List ℕ) (sound : Sound book) (n : Number) where
   sale-without-number e bundle q = sale-no-number book t u bundle q (means-sound book sound) e
 
   pub cancel-without-number : isNumber n ≡ false → cancelAnswer book t u ≡ noReceipt (refuse 22 0 0)
-  cancel-without-number e = cancel-no-number book t u (means-sound book sound) e
+  cancel-without-number e = cancel-refused book t u (looked-no-number book t u (means-sound book sound) e)
+
+  pub find-without-number : isNumber n ≡ false → findAnswer book t u ≡ noBooking (refuse 22 0 0)
+  find-without-number e = find-refused book t u (looked-no-number book t u (means-sound book sound) e)
 
   module _ (number : isNumber n ≡ true) where
     -- one that an entry has: a sale of the same question, of another, and a cancellation,
@@ -110,10 +128,14 @@ module _ (book : List ℕ) (sound : Sound book) (n : Number) where
           let few = few-legs (entry .asked) (sound-entry entry well .asked-well) in
           sent-again bundle q ∙ again-other entry i q (ap (λ ws. same ws (questionWords q)) (sym asked-words) ∙ other-words (questionOf (entry .asked)) q few other)
 
-      pub known-cancel : cancelAnswer book t u ≡ receipt (cond (eqb (entry .status) 0) Cancelled AlreadyCancelled) (entry .parts)
-      known-cancel =
-          present-cancel book t u (means-sound book sound) number (there .0)
-          ∙ ap (λ (x : Entry). receipt (cond (eqb (x .status) 0) Cancelled AlreadyCancelled) (x .parts)) the-entry
+      found : looked book t u ≡ clean
+      found = looked-present book t u (means-sound book sound) number (there .0)
+
+      pub known-cancel : cancelAnswer book t u ≡ cancelReceipt entry
+      known-cancel = cancel-answered book t u found ∙ ap cancelReceipt the-entry
+
+      pub known-find : findAnswer book t u ≡ bookingAt i entry
+      known-find = find-answered book t u found ∙ ap₂ bookingAt (there .1) the-entry
 
     -- and one that no entry has: a cancellation, a sale in a full book,
     module _ (nowhere : HeldNowhere book t u) where
@@ -126,7 +148,10 @@ module _ (book : List ℕ) (sound : Sound book) (n : Number) where
               absurd (nowhere (place book t u) h (has-number t u (entryAt book (place book t u)) (rw (entry-is book (place book t u) h) at k)))
 
       pub unknown-cancel : cancelAnswer book t u ≡ noReceipt (refuse 25 0 0)
-      unknown-cancel = cancel-unknown book t u (means-sound book sound) number absent
+      unknown-cancel = cancel-refused book t u (looked-unknown book t u (means-sound book sound) number absent)
+
+      pub unknown-find : findAnswer book t u ≡ noBooking (refuse 25 0 0)
+      unknown-find = find-refused book t u (looked-unknown book t u (means-sound book sound) number absent)
 
       module _ (bundle : List ℕ) (q : Question) where
         pub sale-when-full : 256 ≤ countOf book → saleAnswer book t u bundle q ≡ noReceipt (refuse 24 0 0)

@@ -1,5 +1,6 @@
 pub mod Sales
 pub mod Balances
+pub mod Reading
 pub mod History
 pub mod OneCard
 pub mod Helpers

@@ -25,6 +25,10 @@ noReceipt why = record { outcome = Refused why; parts = replicate 8 0 }
 abbrev pub receipt : Outcome → List ℕ → Receipt
 receipt o parts = record { outcome = o; parts = parts }
 
+-- "a live sale becomes cancelled; a cancelled one answers 'already cancelled'. Both tell the parts."
+abbrev pub cancelReceipt : Entry → Receipt
+cancelReceipt e = receipt (cond (eqb (e .status) 0) Cancelled AlreadyCancelled) (e .parts)
+
 abbrev pub isClean : Finding → Bool
 isClean clean = true
 isClean (fault why) = false
@@ -72,7 +76,7 @@ module _ (book : List ℕ) (till sequence : ℕ) where
   unfoldable pub saleWords : List ℕ → Question → List ℕ
   saleWords bundle q = cond (isBooked bundle q) (added book (booking till sequence q (partsOf (recordsOf bundle) q))) book
 
-  -- CANCEL. "21, 22, 25; a live sale becomes cancelled; a cancelled one answers 'already cancelled'. Both tell the parts."
+  -- CANCEL. "21, 22, 25", and then the receipt
   abbrev pub cancelChecksBy : Bool → List Check
   cancelChecksBy sound =
       check (not sound) 21 0 0 ∷
@@ -84,9 +88,7 @@ module _ (book : List ℕ) (till sequence : ℕ) where
   cancelChecks = cancelChecksBy (soundWords book)
 
   abbrev pub cancelAnswerBy : List Check → Receipt
-  cancelAnswerBy checks =
-      unless noReceipt (firstFault checks)
-      (receipt (cond (eqb (present .status) 0) Cancelled AlreadyCancelled) (present .parts))
+  cancelAnswerBy checks = unless noReceipt (firstFault checks) (cancelReceipt present)
 
   unfoldable pub cancelAnswer : Receipt
   cancelAnswer = cancelAnswerBy cancelChecks

@@ -4,10 +4,12 @@ ghost use Prim.Native.Nat.{_+_, _≤_};
 ghost use lib.ListN.{length};
 ghost use Rattle.common.specs.Checks.{refuse};
 ghost use Rattle.book.specs.Words.{width, startOf, entryAt};
-ghost use Rattle.sales.specs.Sales.{noReceipt, saleAnswer, cancelAnswer};
+ghost use Rattle.sales.specs.Sales.{noReceipt, cancelReceipt, saleAnswer, cancelAnswer};
 ghost use Rattle.sales.specs.Helpers.{againAnswer, firstAnswer};
 use super::Outcome;
 use super::Receipt;
+use super::reading::Looked;
+use super::reading::look_up;
 use common::Refusal;
 use fares::Question;
 
@@ -81,16 +83,18 @@ fn sold_first(bundle: &[u8], q: Question) -> Receipt
 pub fn judge_cancel(book: &[u32], till: u32, sequence: u64) -> Receipt
     ensures { λ r. ⌜ r ≡ cancelAnswer (now (book .entry)) till sequence ⌝ }
 {
-    if !book::sound::is_sound(book) {
-        return refused(21, 0, 0);
+    let looked = look_up(book, till, sequence);
+    match looked {
+        Looked::Refused(why) => no_receipt(why),
+        Looked::At(place) => cancelled_at(book, place),
     }
-    if !book::sound::is_number(till, sequence) {
-        return refused(22, 0, 0);
-    }
-    let place = book::entries::find(book, till, sequence as u32);
-    if book::entries::count(book) <= place {
-        return refused(25, 0, 0);
-    }
+}
+
+// An entry that is to be cancelled: a live sale, or one that was cancelled before.
+fn cancelled_at(book: &[u32], place: usize) -> Receipt
+    requires { ⌜ startOf place + width ≤ length (now book) ⌝ }
+    ensures { λ r. ⌜ r ≡ cancelReceipt (entryAt (now (book .entry)) place) ⌝ }
+{
     let parts = book::entries::parts_of(book, place);
     if book::entries::status_of(book, place) == 0 {
         return Receipt {

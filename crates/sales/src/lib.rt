@@ -4,6 +4,7 @@ ghost use Rattle.sales.specs.Sales.{saleAnswer, saleWords, cancelAnswer,
 ghost use Rattle.sales.specs.Balances.{balanceAnswer, totalAnswer};
 
 mod judged;
+pub mod reading;
 
 // What came of a sale or a cancellation; `AlreadyBooked` has the status of the entry, 1 if it is cancelled.
 pub enum Outcome {
@@ -24,6 +25,30 @@ pub struct Receipt {
 pub enum Sum {
     Amount(u64),
     Refused(common::Refusal),
+}
+
+// How many sales a book has, or why that is not told.
+pub enum Tally {
+    Entries(usize),
+    Refused(common::Refusal),
+}
+
+// Whether a sale was found in a book, or why not.
+pub enum Lookup {
+    Found,
+    Refused(common::Refusal),
+}
+
+// A sale as a book has it: which entry it is, its number, what was asked, the parts as first priced, and the status, 1 if it is cancelled. All zero
+// where it is refused.
+pub struct Booking {
+    pub outcome: Lookup,
+    pub entry: usize,
+    pub till: u32,
+    pub sequence: u32,
+    pub question: fares::Question,
+    pub parts: [u32; 8],
+    pub status: u32,
 }
 
 // Books a sale, if its number is new and it can be priced.
