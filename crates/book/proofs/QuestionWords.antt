@@ -5,14 +5,15 @@ use Prim.Native.Nat.{ℕ, suc, _+_, _-_, _*_, _≤_, _<_}
 use mathlib.Core.Path.{_≡_, refl, sym, _∙_, ap}
 use mathlib.Core.Bool.{Bool, true, false, cond, _&&_}
 use mathlib.Core.List.{List, [], _∷_, _++_, flatMap, append-assoc}
+use mathlib.Core.Logic.{⊎-elim}
 use native.Mathlib.Omega.{arith}
 use lib.Dec.{ltb}
-use lib.ListN.{length, getD, set, replicate, length-append}
+use lib.ListN.{length, getD, set, replicate, length-append, List·getD-eq-default}
 use lib.Seq.{ext-getD, append-snoc, set-at}
-use borrow.Author.Tests.{lt-ltb}
+use borrow.Author.Tests.{lt-ltb, le-ltb}
 use Rattle.common.specs.Lists.{same, upTo}
 use Rattle.common.proofs.Lists.{upto-length, upto-at, upto-same, upto-more, first-length, first-at, is-same, same-is}
-use Rattle.common.proofs.Tests.{both-true}
+use Rattle.common.proofs.Tests.{both-true, side}
 use Rattle.fares.specs.Question.{noLeg, legsOf, cardSlots, cardsDiffer, inLimits}
 use Rattle.fares.specs.Meaning.{cardAt}
 use Rattle.fares.specs.declared.Leg.{Leg}
@@ -54,6 +55,16 @@ module _ (q : Question) where
       ext-getD 0 (cardSlots kept) (cardSlots q) (n (kept .cards) ∙ sym (n (q .cards)))
       (λ k m. let l : k < 4 = omega (arith, n (kept .cards)) in
       first-at 0 4 (kept .cards) k l ∙ (upto-at (cardAt q) cardsWidth k 0 l ∙ sym (first-at 0 4 (q .cards) k l)))
+
+  -- beyond the leg count no leg is said
+  pub no-leg-said : (k : ℕ) → q .count ≤ k → getD (questionOf (questionWords q) .legs) k noLeg ≡ noLeg
+  no-leg-said k l = ap (λ x. getD (x .legs) k noLeg) said ∙ ⊎-elim inside outside (side k 8)
+    where
+      inside : k < 8 → getD (upTo (legAt q) 8) k noLeg ≡ noLeg
+      inside m = upto-at (legAt q) 8 k noLeg m ∙ rw (le-ltb k (q .count) l)
+
+      outside : 8 ≤ k → getD (upTo (legAt q) 8) k noLeg ≡ noLeg
+      outside m = List·getD-eq-default (upTo (legAt q) 8) noLeg (rw (upto-length (legAt q) 8) m)
 
   pub words-again : questionWords (questionOf (questionWords q)) ≡ questionWords q
   unfolding questionWords

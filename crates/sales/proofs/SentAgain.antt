@@ -1,5 +1,5 @@
 -- DEMAND 3, its second half: a sale that is sent again is told its first amounts and changes nothing, and a number used again for another sale is
--- refused; cancelled or not, after any history. A cancellation of it tells its first amounts too.
+-- refused; cancelled or not, after any history. A cancellation of it tells its first amounts too, and reading it tells the sale.
 -- Assumes nothing.
 use Prim.Native.Nat.{ℕ, _≤_, _<_}
 use mathlib.Core.Path.{_≡_, refl, sym, _∙_, ap}
@@ -12,29 +12,32 @@ use lib.Seq.{getD-at}
 use borrow.Author.Tests.{eq-eqb}
 use Rattle.common.specs.Lists.{same}
 use Rattle.common.specs.Checks.{refuse}
+use Rattle.common.proofs.Lists.{is-same}
 use Rattle.common.proofs.Sums.{map-at}
 use Rattle.bundle.specs.Records.{recordsOf}
 use Rattle.fares.specs.Fare.{partsOf}
 use Rattle.fares.specs.declared.Question.{Question}
-use Rattle.book.specs.Words.{Entry, noEntry, countOf, entries, entryAt, questionWords, booking}
+use Rattle.book.specs.Words.{Entry, noEntry, countOf, entries, entryAt, questionOf, questionWords, booking}
 use Rattle.book.specs.Sound.{hasNumber}
 use Rattle.book.specs.SameQuestion.{SameQuestion}
 use Rattle.book.specs.Meaning.{Sound, Holds}
 use Rattle.sales.specs.Sales.{saleAnswer, saleWords, cancelAnswer, cancelWords, isBooked, receipt, noReceipt}
 use Rattle.sales.specs.declared.Outcome.the-variants.{Booked, AlreadyBooked, Cancelled, AlreadyCancelled}
 use Rattle.sales.specs.History.{Number, Op, sale, cancel, emptyBook, after, cancelledIn, isNumber, books, bookedBy}
+use Rattle.sales.specs.Reading.{bookingAt, entryAnswer, findAnswer, IsSale}
 use Rattle.sales.specs.Helpers.{againAnswer}
 use Rattle.book.proofs.EntryWords.{cancelledEntry}
 use Rattle.book.proofs.SoundBook.{IsSound, sound-is, entry-is, entries-length}
 use Rattle.book.proofs.BookMeaning.{sound-means}
 use Rattle.book.proofs.NumbersDiffer.{has-number}
-use Rattle.book.proofs.ComparedWords.{same-words, other-words}
+use Rattle.book.proofs.QuestionWords.{words-again, no-leg-said}
+use Rattle.book.proofs.ComparedWords.{same-words, same-question, other-words}
 use Rattle.fares.proofs.FareLaws.{asked}
 use Rattle.book.proofs.StaysSound.{cancelling}
 use Rattle.sales.proofs.SaleAndCancel.{saleNumberOf, same-sale-number, saleNumbersOf, books-is, not-booked, sale-entries, sale-sound, cancel-after, books-number, books-priced, priced-in-limits}
 use Rattle.sales.proofs.BalanceIsOwed.{stays-sound, empty-sound, booked-numbers}
 use Rattle.sales.proofs.AnswersByCase.{booked-is, again-same, again-other}
-use Rattle.sales.proofs.InAnyBook.{there, sent-again, known-cancel}
+use Rattle.sales.proofs.InAnyBook.{there, sent-again, known-cancel, known-find, sale-at}
 
 -- an entry once booked: where it is, and cancelled if an operation cancels its number
 abbrev later : Entry → List Op → Entry
@@ -178,6 +181,9 @@ module _ (first : List Op) (n : Number) (b : List ℕ) (q : Question) (more : Li
         ∙ again-same (later entry more) i q′ (ap (λ x. same x (questionWords q′)) (asked-is (cancelledIn n more)) ∙ same-words q q′ h)
         ∙ kept (cancelledIn n more)
 
+    behind-all : i ≡ length (bookedBy [] first)
+    behind-all = sym (length-map (entries start) saleNumberOf) ∙ ap length (booked-numbers first)
+
     few-legs : q .count ≤ 8
     few-legs = asked q (priced-in-limits b q (books-priced start at-first n b q booked)) .few
 
@@ -187,7 +193,7 @@ module _ (first : List Op) (n : Number) (b : List ℕ) (q : Question) (more : Li
     refused-other b′ q′ h =
         answered b′ q′
         ∙ (again-other (later entry more) i q′ (ap (λ x. same x (questionWords q′)) (asked-is (cancelledIn n more)) ∙ other-words q q′ few-legs h)
-        ∙ ap (λ k. noReceipt (refuse 23 k 0)) (sym (length-map (entries start) saleNumberOf) ∙ ap length (booked-numbers first)))
+        ∙ ap (λ k. noReceipt (refuse 23 k 0)) behind-all)
 
     -- and nothing changes
     pub nothing-changes : (b′ : List ℕ) (q′ : Question) → saleWords now (n .till) (n .sequence) b′ q′ ≡ now
@@ -204,3 +210,22 @@ module _ (first : List Op) (n : Number) (b : List ℕ) (q : Question) (more : Li
     cancel-told =
         known-cancel now now-meant n number i inside-now holds
         ∙ (ap (λ (x : Entry). receipt (cond (eqb (x .status) 0) Cancelled AlreadyCancelled) (x .parts)) the-entry ∙ cancelled-by (cancelledIn n more))
+
+    -- A find tells it: where it stands, as it was asked and first priced, and whether it is cancelled; and so does its entry.
+    read-back : SameQuestion q (questionOf (questionWords q))
+    read-back = same-question q (questionOf (questionWords q)) few-legs (is-same _ _ (sym (words-again q)))
+
+    as-sold : (c : Bool) → IsSale (bookingAt i (cond c (cancelledEntry entry) entry)) i n q (partsOf (recordsOf b) q) c
+    as-sold true = record { found = refl; entry = refl; till = refl; sequence = refl; question = read-back; unused = no-leg-said q; amounts = refl; status = refl }
+    as-sold false = record { found = refl; entry = refl; till = refl; sequence = refl; question = read-back; unused = no-leg-said q; amounts = refl; status = refl }
+
+    found-at : findAnswer now (n .till) (n .sequence) ≡ bookingAt i (later entry more)
+    found-at = known-find now now-meant n number i inside-now holds ∙ ap (bookingAt i) the-entry
+
+    pub found-again : IsSale (findAnswer now (n .till) (n .sequence)) (length (bookedBy [] first)) n q (partsOf (recordsOf b) q) (cancelledIn n more)
+    found-again = rw (found-at, ← behind-all) (as-sold (cancelledIn n more))
+
+    pub listed-again : entryAnswer now (length (bookedBy [] first)) ≡ findAnswer now (n .till) (n .sequence)
+    listed-again =
+        ap (entryAnswer now) (sym behind-all)
+        ∙ (sale-at now now-meant i inside-now ∙ sym (known-find now now-meant n number i inside-now holds))

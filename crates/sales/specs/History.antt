@@ -21,6 +21,9 @@ pub record Number : Type 0 where
   pub till : ℕ
   pub sequence : ℕ
 
+abbrev pub noNumber : Number
+noNumber = record { till = 0; sequence = 0 }
+
 -- an operation: a sale with any bundle, or a cancellation
 pub data Op : Type 0 where
   sale : Number → List ℕ → Question → Op

@@ -1,8 +1,9 @@
 -- What the calls answer that read a book: how many sales it has, one by its place, one by its number. Document 01 has no such calls: an office lists the
 -- sales by them, and a till asks its earlier books.
 -- Assumes nothing.
-use Prim.Native.Nat.{ℕ}
-use mathlib.Core.Bool.{not}
+use Prim.Native.Nat.{ℕ, _≤_}
+use mathlib.Core.Path.{_≡_}
+use mathlib.Core.Bool.{Bool, cond, not}
 use mathlib.Core.List.{List, [], _∷_}
 use lib.Dec.{ltb}
 use lib.ListN.{length, getD, replicate}
@@ -12,7 +13,9 @@ use Rattle.fares.specs.Question.{noLeg}
 use Rattle.fares.specs.declared.Question.{Question}
 use Rattle.book.specs.Words.{Entry, noEntry, entries, questionOf}
 use Rattle.book.specs.Sound.{soundWords}
+use Rattle.book.specs.SameQuestion.{SameQuestion}
 use Rattle.sales.specs.Sales.{place, present, cancelChecks}
+use Rattle.sales.specs.History.{Number}
 use Rattle.sales.specs.declared.Booking.{Booking}
 use Rattle.sales.specs.declared.Lookup.the-variants.{Found, Refused as NotFound}
 use Rattle.sales.specs.declared.Tally.{Tally}
@@ -47,3 +50,14 @@ entryAnswer book i = unless noBooking (firstFault (entryChecks book i)) (booking
 -- FIND: 21, 22, 25, as a cancellation looks for the number
 unfoldable pub findAnswer : List ℕ → ℕ → ℕ → Booking
 findAnswer book till sequence = unless noBooking (firstFault (cancelChecks book till sequence)) (bookingAt (place book till sequence) (present book till sequence))
+
+-- WHAT A SALE READ IS: found at an entry, with its number, the question that was asked, its parts, and whether it is cancelled
+pub record IsSale (r : Booking) (i : ℕ) (n : Number) (q : Question) (parts : List ℕ) (cancelled : Bool) : Type 0 where
+  pub found : r .outcome ≡ Found
+  pub entry : r .entry ≡ i
+  pub till : r .till ≡ n .till
+  pub sequence : r .sequence ≡ n .sequence
+  pub question : SameQuestion q (r .question)
+  pub unused : (k : ℕ) → q .count ≤ k → getD (r .question .legs) k noLeg ≡ noLeg
+  pub amounts : r .parts ≡ parts
+  pub status : r .status ≡ cond cancelled 1 0
