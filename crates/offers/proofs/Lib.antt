@@ -1,3 +1,4 @@
 pub mod Orders
 pub mod OneAnswer
 pub mod Promises
+pub mod Reading

@@ -3,11 +3,11 @@
 use Prim.Native.Nat.{ℕ}
 use mathlib.Core.Path.{_≡_, refl, sym, _∙_, ap}
 use mathlib.Core.Bool.{Bool, true, false, cond}
-use mathlib.Core.List.{List, [], _∷_, _++_}
+use mathlib.Core.List.{List, [], _∷_, _++_, flatMap}
 use mathlib.Core.Logic.{⊎-elim}
 use native.Mathlib.Omega.{arith}
 use lib.Dec.{eqb, leb}
-use lib.ListN.{length, replicate}
+use lib.ListN.{length, getD, replicate}
 use Rattle.common.specs.Lists.{every, any, sum}
 use Rattle.common.specs.Checks.{Finding, clean, fault, Check, check, unless, firstFault, eachFrom, TellsOf}
 use Rattle.common.specs.declared.Refusal.{Refusal}
@@ -23,16 +23,19 @@ use Rattle.fares.specs.declared.Question.{Question}
 use Rattle.fares.specs.declared.Quote.{Quote}
 use Rattle.fares.specs.declared.Pricing.{Pricing}
 use Rattle.fares.specs.declared.Pricing.the-variants.{Priced, Refused as NoFare}
-use Rattle.book.specs.Words.{capacity, entries}
-use Rattle.sales.specs.Sales.{noReceipt, receipt, isPresent, present, saleChecks, saleAnswer, cancelChecks, cancelAnswer}
+use Rattle.book.specs.Words.{noEntry, capacity, entries}
+use Rattle.sales.specs.Sales.{noReceipt, receipt, place, isPresent, present, saleChecks, saleAnswer, cancelChecks, cancelAnswer}
 use Rattle.book.specs.Amounts.{ofRailway, ofAll, balanceOf}
 use Rattle.sales.specs.Balances.{balanceChecks, totalChecks, balanceAnswer, totalAnswer}
+use Rattle.sales.specs.Reading.{noBooking, bookingAt, countChecks, entryChecks, countAnswer, entryAnswer, findAnswer}
 use Rattle.sales.specs.declared.Receipt.{Receipt}
 use Rattle.sales.specs.declared.Sum.the-variants.{Amount, Refused as NoSum}
+use Rattle.sales.specs.declared.Tally.the-variants.{Entries, Refused as NoCount}
 use Rattle.sales.specs.declared.Outcome.{Outcome}
 use Rattle.sales.specs.declared.Outcome.the-variants.{Booked, AlreadyBooked, Cancelled, AlreadyCancelled, Refused as NoEntry}
-use Rattle.offers.specs.Answers.{Told, answers, refuses, verdictTells, pricingTells, fareTells, booked, alreadyBooked, cancelled, alreadyCancelled, outcomeTells, receiptTells, sumTells, Follows}
-use Rattle.offers.specs.Answers.{verdictNumbers, fareNumbers, saleNumbers, cancelNumbers, balanceNumbers, totalNumbers, Among}
+use Rattle.sales.proofs.AnswersByCase.{booked-parts}
+use Rattle.offers.specs.Answers.{Told, answers, refuses, verdictTells, pricingTells, fareTells, booked, alreadyBooked, cancelled, alreadyCancelled, outcomeTells, receiptTells, sumTells, tallyTells, bookingValues, bookingWidth, lookupTells, bookingTells, Follows}
+use Rattle.offers.specs.Answers.{verdictNumbers, fareNumbers, saleNumbers, cancelNumbers, balanceNumbers, totalNumbers, countNumbers, entryNumbers, findNumbers, Among}
 
 -- WHAT IS TOLD by what the checks come to: a refusal with n zeros, or the values
 abbrev noValues : ℕ → Refusal → Told
@@ -80,6 +83,18 @@ module _ (w : List ℕ) where
   pub total-follows : Follows (sumTells (totalAnswer w)) (totalChecks w) 1 (balanceOf ofAll (entries w) ∷ [])
   unfolding totalAnswer sumTells
   total-follows = follows _ (totalChecks w) 1 _ (told sumTells NoSum (firstFault (totalChecks w)) (Amount (balanceOf ofAll (entries w))))
+
+  pub count-follows : Follows (tallyTells (countAnswer w)) (countChecks w) 1 (length (entries w) ∷ [])
+  unfolding countAnswer tallyTells
+  count-follows = follows _ (countChecks w) 1 _ (told tallyTells NoCount (firstFault (countChecks w)) (Entries (length (entries w))))
+
+  pub entry-follows : (i : ℕ) → Follows (bookingTells (entryAnswer w i)) (entryChecks w i) bookingWidth (bookingValues (bookingAt i (getD (entries w) i noEntry)))
+  unfolding entryAnswer bookingTells lookupTells flatMap
+  entry-follows i = follows _ (entryChecks w i) bookingWidth _ (told bookingTells noBooking (firstFault (entryChecks w i)) (bookingAt i (getD (entries w) i noEntry)))
+
+  pub find-follows : (t s : ℕ) → Follows (bookingTells (findAnswer w t s)) (cancelChecks w t s) bookingWidth (bookingValues (bookingAt (place w t s) (present w t s)))
+  unfolding findAnswer bookingTells lookupTells flatMap
+  find-follows t s = follows _ (cancelChecks w t s) bookingWidth _ (told bookingTells noBooking (firstFault (cancelChecks w t s)) (bookingAt (place w t s) (present w t s)))
 
   module _ (t s : ℕ) where
     told-sold : (b : Bool) (again first : List ℕ) → let status = present w t s .status in
@@ -153,6 +168,14 @@ total-numbers : (w : List ℕ) → TellsOf totalNumbers (totalChecks w)
 unfolding every any
 total-numbers w = refl
 
+count-numbers : (w : List ℕ) → TellsOf countNumbers (countChecks w)
+unfolding every any
+count-numbers w = refl
+
+entry-numbers : (w : List ℕ) (i : ℕ) → TellsOf entryNumbers (entryChecks w i)
+unfolding every any
+entry-numbers w i = refl
+
 -- a refusal tells one of its call's numbers
 refused-among : {t : Told} {cs : List Check} {n : ℕ} {vs : List ℕ} (ns : List ℕ) → Follows t cs n vs → TellsOf ns cs
     → (why : Refusal) (us : List ℕ) → t ≡ refuses why us → Among ns (why .number)
@@ -198,6 +221,10 @@ pub told-booked : (r : Receipt) (parts : List ℕ) → receiptTells r ≡ answer
 unfolding receiptTells
 told-booked r parts e = outcome-booked (r .outcome) (r .parts) parts e
 
+pub first-parts : (w : List ℕ) (t s : ℕ) (b : List ℕ) (q : Question) (parts : List ℕ) → receiptTells (saleAnswer w t s b q) ≡ answers (booked ∷ 0 ∷ parts)
+    → partsOf (recordsOf b) q ≡ parts
+first-parts w t s b q parts e = let r = told-booked (saleAnswer w t s b q) parts e in sym (booked-parts w t s b q (r .0)) ∙ r .1
+
 pub booked-told : (r : Receipt) → r .outcome ≡ Booked → receiptTells r ≡ answers (booked ∷ 0 ∷ r .parts)
 unfolding receiptTells outcomeTells
 booked-told r e = ap (λ (o : Outcome). outcomeTells o (r .parts)) e
@@ -225,3 +252,12 @@ the-numbers-of-a-balance book railway = refused-among balanceNumbers (balance-fo
 
 pub the-numbers-of-a-total : (book : List ℕ) (why : Refusal) (us : List ℕ) → sumTells (totalAnswer book) ≡ refuses why us → Among totalNumbers (why .number)
 the-numbers-of-a-total book = refused-among totalNumbers (total-follows book) (total-numbers book)
+
+pub the-numbers-of-a-count : (book : List ℕ) (why : Refusal) (us : List ℕ) → tallyTells (countAnswer book) ≡ refuses why us → Among countNumbers (why .number)
+the-numbers-of-a-count book = refused-among countNumbers (count-follows book) (count-numbers book)
+
+pub the-numbers-of-an-entry : (book : List ℕ) (i : ℕ) (why : Refusal) (us : List ℕ) → bookingTells (entryAnswer book i) ≡ refuses why us → Among entryNumbers (why .number)
+the-numbers-of-an-entry book i = refused-among entryNumbers (entry-follows book i) (entry-numbers book i)
+
+pub the-numbers-of-a-find : (book : List ℕ) (till sequence : ℕ) (why : Refusal) (us : List ℕ) → bookingTells (findAnswer book till sequence) ≡ refuses why us → Among findNumbers (why .number)
+the-numbers-of-a-find book till sequence = refused-among findNumbers (find-follows book till sequence) (cancel-numbers book till sequence)

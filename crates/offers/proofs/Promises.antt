@@ -89,9 +89,9 @@ use Rattle.sales.proofs.SentFirst.{always-meant, unknown-is-told, full-is-told,
 use Rattle.sales.proofs.SentAgain.{told-first, refused-other, nothing-changes, cancel-told}
 use Rattle.sales.proofs.OneCard.{same-sale as sold-as-it-was, same-sale-words, same-cancel, same-cancel-words, same-balance, same-total}
 use Rattle.sales.proofs.OneCardHistory.{same-after, empty-before}
-use Rattle.sales.proofs.AnswersByCase.{booked-parts, not-booked-stays, not-cancelled-stays}
+use Rattle.sales.proofs.AnswersByCase.{not-booked-stays, not-cancelled-stays}
 use Rattle.offers.specs.Answers.{Told, answers, refuses, verdictTells, pricingTells, fareTells, booked, alreadyBooked, cancelled, alreadyCancelled, outcomeTells, receiptTells, sumTells}
-use Rattle.offers.proofs.Orders.{told-accepted, told-refused, told-priced, told-no-fare, told-booked, booked-told, cancelled-told}
+use Rattle.offers.proofs.Orders.{told-accepted, told-refused, told-priced, told-no-fare, told-booked, first-parts, booked-told, cancelled-told}
 
 -- DEMAND 2, a bundle. Its records are the whole ones that stand one after the other from its start, and there is one way to cut it so.
 pub the-records-of-a-bundle : (bundle : List ℕ) → Cut bundle (recordsOf bundle) (restOf bundle)
@@ -460,14 +460,11 @@ module _ (first : List Op) (n : Number) (bundle : List ℕ) (q : Question) (more
   abbrev now : List ℕ
   now = after emptyBook (first ++ (sale n bundle q ∷ more))
 
-  first-parts : partsOf (recordsOf bundle) q ≡ parts
-  first-parts = let r = told-booked _ parts sold in sym (booked-parts _ _ _ bundle q (r .0)) ∙ r .1
-
   pub sent-again-is-told-its-first-amounts : (bundle′ : List ℕ) (q′ : Question) → SameQuestion q q′
       → receiptTells (saleAnswer now (n .till) (n .sequence) bundle′ q′) ≡ answers (alreadyBooked ∷ cond (cancelledIn n more) 1 0 ∷ parts)
   unfolding receiptTells outcomeTells
   sent-again-is-told-its-first-amounts bundle′ q′ e =
-      rw (told-first first n bundle q more (told-booked _ parts sold .0) bundle′ q′ e) (ap (λ x. answers (alreadyBooked ∷ cond (cancelledIn n more) 1 0 ∷ x)) first-parts)
+      rw (told-first first n bundle q more (told-booked _ parts sold .0) bundle′ q′ e) (ap (λ x. answers (alreadyBooked ∷ cond (cancelledIn n more) 1 0 ∷ x)) (first-parts _ _ _ bundle q parts sold))
 
   pub another-question-is-refused : (bundle′ : List ℕ) (q′ : Question) → (SameQuestion q q′ → ⊥)
       → receiptTells (saleAnswer now (n .till) (n .sequence) bundle′ q′) ≡ refuses (refuse 23 (length (bookedBy [] first)) 0) (replicate 10 0)
@@ -491,7 +488,7 @@ module _ (first : List Op) (n : Number) (bundle : List ℕ) (q : Question) (more
   pub its-cancellation-tells-its-first-amounts : receiptTells (cancelAnswer now (n .till) (n .sequence))
       ≡ answers (cond (cancelledIn n more) alreadyCancelled cancelled ∷ 1 ∷ parts)
   unfolding receiptTells outcomeTells
-  its-cancellation-tells-its-first-amounts = rw (cancel-told first n bundle q more (told-booked _ parts sold .0), first-parts) (go (cancelledIn n more))
+  its-cancellation-tells-its-first-amounts = rw (cancel-told first n bundle q more (told-booked _ parts sold .0), first-parts _ _ _ bundle q parts sold) (go (cancelledIn n more))
     where
       go : (c : Bool) → outcomeTells (cond c AlreadyCancelled Cancelled) parts ≡ answers (cond c alreadyCancelled cancelled ∷ 1 ∷ parts)
       go true = refl

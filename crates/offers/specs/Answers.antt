@@ -3,7 +3,7 @@
 use Prim.Native.Nat.{ℕ}
 use mathlib.Core.Path.{_≡_}
 use mathlib.Core.Bool.{true}
-use mathlib.Core.List.{List, [], _∷_, _++_}
+use mathlib.Core.List.{List, [], _∷_, _++_, flatMap}
 use lib.Dec.{eqb}
 use lib.ListN.{replicate}
 use Rattle.common.specs.Lists.{any}
@@ -11,14 +11,21 @@ use Rattle.common.specs.Checks.{Check, AllPass, First}
 use Rattle.common.specs.declared.Refusal.{Refusal}
 use Rattle.bundle.specs.declared.Judgement.{Judgement}
 use Rattle.bundle.specs.declared.Judgement.the-variants.{Accepted, Refused}
+use Rattle.fares.specs.declared.Leg.{Leg}
+use Rattle.fares.specs.declared.Question.{Question}
 use Rattle.fares.specs.declared.Quote.{Quote}
 use Rattle.fares.specs.declared.Pricing.{Pricing}
 use Rattle.fares.specs.declared.Pricing.the-variants.{Priced, Refused as NoFare}
 use Rattle.sales.specs.declared.Outcome.{Outcome}
 use Rattle.sales.specs.declared.Outcome.the-variants.{Booked, AlreadyBooked, Cancelled, AlreadyCancelled, Refused as NoEntry}
 use Rattle.sales.specs.declared.Receipt.{Receipt}
+use Rattle.sales.specs.declared.Booking.{Booking}
+use Rattle.sales.specs.declared.Lookup.{Lookup}
+use Rattle.sales.specs.declared.Lookup.the-variants.{Found, Refused as NotFound}
 use Rattle.sales.specs.declared.Sum.{Sum}
 use Rattle.sales.specs.declared.Sum.the-variants.{Amount, Refused as NoSum}
+use Rattle.sales.specs.declared.Tally.{Tally}
+use Rattle.sales.specs.declared.Tally.the-variants.{Entries, Refused as NoCount}
 
 -- an answer with its values, or a refusal (number, place and detail) and the values that go with it
 pub data Told : Type 0 where
@@ -69,6 +76,31 @@ unfoldable pub sumTells : Sum → Told
 sumTells (Amount n) = answers (n ∷ [])
 sumTells (NoSum why) = refuses why (0 ∷ [])
 
+-- HOW MANY SALES a book has: the count.
+unfoldable pub tallyTells : Tally → Told
+tallyTells (Entries n) = answers (n ∷ [])
+tallyTells (NoCount why) = refuses why (0 ∷ [])
+
+-- A SALE READ: its entry, till, sequence and status, the values of its question, and its eight parts; 36 values.
+abbrev pub legValues : Leg → List ℕ
+legValues leg = leg .railway ∷ leg .fare ∷ []
+
+abbrev pub questionValues : Question → List ℕ
+questionValues q = q .offer ∷ q .day ∷ q .persons ∷ (q .cards ++ (q .count ∷ flatMap legValues (q .legs)))
+
+abbrev pub bookingValues : Booking → List ℕ
+bookingValues r = r .entry ∷ r .till ∷ r .sequence ∷ r .status ∷ (questionValues (r .question) ++ r .parts)
+
+abbrev pub bookingWidth : ℕ
+bookingWidth = 36
+
+unfoldable pub lookupTells : Lookup → List ℕ → Told
+lookupTells Found values = answers values
+lookupTells (NotFound why) values = refuses why values
+
+unfoldable pub bookingTells : Booking → Told
+bookingTells r = lookupTells (r .outcome) (bookingValues r)
+
 -- AN ANSWER FOLLOWS AN ORDER OF CHECKS: it is refused by the first that fails, with all n values zero, and by no other; where none fails it is
 -- answered with the values vs, and with no other.
 pub record Follows (t : Told) (cs : List Check) (n : ℕ) (vs : List ℕ) : Type 0 where
@@ -98,3 +130,12 @@ balanceNumbers = 21 ∷ 11 ∷ []
 
 abbrev pub totalNumbers : List ℕ
 totalNumbers = 21 ∷ []
+
+abbrev pub countNumbers : List ℕ
+countNumbers = 21 ∷ []
+
+abbrev pub entryNumbers : List ℕ
+entryNumbers = 21 ∷ 25 ∷ []
+
+abbrev pub findNumbers : List ℕ
+findNumbers = 21 ∷ 22 ∷ 25 ∷ []

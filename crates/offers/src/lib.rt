@@ -27,6 +27,11 @@
 //   balance  21, and then
 //            11  the railway is not 1 to 9999
 //   total    21
+//   count    21
+//   entry    21, and then
+//            25  the book has no such entry
+//   find     21, 22, and then
+//            25  the number is not in the book
 //
 // crates/offers/specs/Answers.antt says each answer in these numbers and values; crates/offers/proofs/Promises.antt what is proved of them.
 ghost use mathlib.Core.Path.{_≡_};
@@ -34,6 +39,7 @@ ghost use Rattle.bundle.specs.Verdict.{verdictOf};
 ghost use Rattle.fares.specs.Fare.{fareOf};
 ghost use Rattle.sales.specs.Sales.{saleAnswer, saleWords, cancelAnswer, cancelWords};
 ghost use Rattle.sales.specs.Balances.{balanceAnswer, totalAnswer};
+ghost use Rattle.sales.specs.Reading.{countAnswer, entryAnswer, findAnswer};
 
 // Why a call is refused: number, place and detail.
 pub use common::Refusal;
@@ -51,6 +57,11 @@ pub use fares::Quote;
 pub use sales::Outcome;
 pub use sales::Receipt;
 pub use sales::Sum;
+
+// What is read of a book: how many sales it has, and a sale as it has it.
+pub use sales::Booking;
+pub use sales::Lookup;
+pub use sales::Tally;
 
 // Judges a bundle of any length.
 pub fn verdict(bundle: &[u8]) -> Judgement
@@ -100,4 +111,25 @@ pub fn total(book: &[u32]) -> Sum
     ensures { λ r. ⌜ r ≡ totalAnswer (now (book .entry)) ⌝ }
 {
     sales::total(book)
+}
+
+// How many sales the book has, cancelled ones too.
+pub fn count(book: &[u32]) -> Tally
+    ensures { λ r. ⌜ r ≡ countAnswer (now (book .entry)) ⌝ }
+{
+    sales::reading::count(book)
+}
+
+// The sale at an entry, in the order of booking.
+pub fn entry(book: &[u32], entry: usize) -> Booking
+    ensures { λ r. ⌜ r ≡ entryAnswer (now (book .entry)) entry ⌝ }
+{
+    sales::reading::entry(book, entry)
+}
+
+// The sale that has a number. Nothing is booked.
+pub fn find(book: &[u32], till: u32, sequence: u64) -> Booking
+    ensures { λ r. ⌜ r ≡ findAnswer (now (book .entry)) till sequence ⌝ }
+{
+    sales::reading::find(book, till, sequence)
 }
