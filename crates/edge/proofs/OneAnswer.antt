@@ -15,6 +15,12 @@ use Rattle.edge.proofs.offers_balance.Kinds as balance
 use Rattle.edge.proofs.offers_balance.Reads as of-balance
 use Rattle.edge.proofs.offers_total.Kinds as total
 use Rattle.edge.proofs.offers_total.Reads as of-total
+use Rattle.edge.proofs.offers_count.Kinds as count
+use Rattle.edge.proofs.offers_count.Reads as of-count
+use Rattle.edge.proofs.offers_entry.Kinds as entry
+use Rattle.edge.proofs.offers_entry.Reads as of-entry
+use Rattle.edge.proofs.offers_find.Kinds as find
+use Rattle.edge.proofs.offers_find.Reads as of-find
 
 pub one-verdict : OneAnswer 1 verdict.ps verdict.r of-verdict.Post
 one-verdict κs a x y u v e f = e ∙ sym f
@@ -39,3 +45,12 @@ one-balance κs a x y u v e f = e ∙ sym f
 
 pub one-total : OneAnswer 1 total.ps total.r of-total.Post
 one-total κs a x y u v e f = e ∙ sym f
+
+pub one-count : OneAnswer 1 count.ps count.r of-count.Post
+one-count κs a x y u v e f = e ∙ sym f
+
+pub one-entry : OneAnswer 1 entry.ps entry.r of-entry.Post
+one-entry κs a x y u v e f = e ∙ sym f
+
+pub one-find : OneAnswer 1 find.ps find.r of-find.Post
+one-find κs a x y u v e f = e ∙ sym f

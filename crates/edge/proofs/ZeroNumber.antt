@@ -14,11 +14,15 @@ use Rattle.fares.specs.declared.Question.{Question}
 use Rattle.bundle.specs.Verdict.{verdictOf}
 use Rattle.sales.specs.Sales.{saleAnswer, cancelAnswer}
 use Rattle.sales.specs.Balances.{balanceAnswer, totalAnswer}
-use Rattle.offers.specs.Answers.{Told, answers, refuses, Among, verdictTells, fareTells, receiptTells, sumTells}
-use Rattle.offers.specs.Answers.{verdictNumbers, fareNumbers, saleNumbers, cancelNumbers, balanceNumbers, totalNumbers}
+use Rattle.sales.specs.Reading.{countAnswer, entryAnswer, findAnswer}
+use Rattle.sales.specs.declared.Booking.{Booking}
+use Rattle.sales.specs.declared.Lookup.{Lookup}
+use Rattle.sales.specs.declared.Lookup.the-variants.{Found, Refused}
+use Rattle.offers.specs.Answers.{Told, answers, refuses, Among, verdictTells, fareTells, receiptTells, sumTells, tallyTells, bookingValues, lookupTells, bookingTells}
+use Rattle.offers.specs.Answers.{verdictNumbers, fareNumbers, saleNumbers, cancelNumbers, balanceNumbers, totalNumbers, countNumbers, entryNumbers, findNumbers}
 use Rattle.offers.proofs.Orders.{the-numbers-of-a-verdict, the-numbers-of-a-fare, the-numbers-of-a-sale}
-use Rattle.offers.proofs.Orders.{the-numbers-of-a-cancellation, the-numbers-of-a-balance, the-numbers-of-a-total}
-use Rattle.edge.specs.Replies.{refusalIn, judgementReply, quoteReply, receiptReply, sumReply}
+use Rattle.offers.proofs.Orders.{the-numbers-of-a-cancellation, the-numbers-of-a-balance, the-numbers-of-a-total, the-numbers-of-a-count, the-numbers-of-an-entry, the-numbers-of-a-find}
+use Rattle.edge.specs.Replies.{refusalIn, judgementReply, quoteReply, receiptReply, sumReply, tallyReply, refusalOf, bookingReply}
 use Rattle.edge.specs.ZeroNumber.{ZeroIfAnswered}
 
 -- where 0 is not among the numbers that a refusal can have
@@ -54,3 +58,24 @@ zero-if-balanced book railway = by-number balanceNumbers refl _ (the-numbers-of-
 pub zero-if-totalled : (book : List ℕ) → let t = sumTells (totalAnswer book) in ZeroIfAnswered (sumReply t .number) t
 unfolding sumReply any
 zero-if-totalled book = by-number totalNumbers refl _ (the-numbers-of-a-total book)
+
+pub zero-if-counted : (book : List ℕ) → let t = tallyTells (countAnswer book) in ZeroIfAnswered (tallyReply t .number) t
+unfolding tallyReply any
+zero-if-counted book = by-number countNumbers refl _ (the-numbers-of-a-count book)
+
+-- the refusal that a reply for a sale has is the one that is told
+told-refusal : (b : Booking) → refusalOf (b .outcome) .number ≡ refusalIn (bookingTells b) .number
+unfolding bookingTells lookupTells
+told-refusal b = by-outcome (b .outcome)
+  where
+    by-outcome : (o : Lookup) → refusalOf o .number ≡ refusalIn (lookupTells o (bookingValues b)) .number
+    by-outcome Found = refl
+    by-outcome (Refused why) = refl
+
+pub zero-if-listed : (book : List ℕ) (i : ℕ) → let b = entryAnswer book i in ZeroIfAnswered (bookingReply b .number) (bookingTells b)
+unfolding bookingReply any
+zero-if-listed book i = rw (told-refusal (entryAnswer book i)) (by-number entryNumbers refl _ (the-numbers-of-an-entry book i))
+
+pub zero-if-found : (book : List ℕ) (till sequence : ℕ) → let b = findAnswer book till sequence in ZeroIfAnswered (bookingReply b .number) (bookingTells b)
+unfolding bookingReply any
+zero-if-found book till sequence = rw (told-refusal (findAnswer book till sequence)) (by-number findNumbers refl _ (the-numbers-of-a-find book till sequence))

@@ -6,10 +6,15 @@ use lib.ListN.{getD, drop}
 use Rattle.common.specs.Checks.{refuse}
 use Rattle.common.specs.declared.Refusal.{Refusal}
 use Rattle.offers.specs.Answers.{Told, answers, refuses}
+use Rattle.sales.specs.declared.Booking.{Booking}
+use Rattle.sales.specs.declared.Lookup.{Lookup}
+use Rattle.sales.specs.declared.Lookup.the-variants.{Found, Refused}
+use Rattle.edge.specs.declared.BookingReply.{BookingReply}
 use Rattle.edge.specs.declared.JudgementReply.{JudgementReply}
 use Rattle.edge.specs.declared.QuoteReply.{QuoteReply}
 use Rattle.edge.specs.declared.ReceiptReply.{ReceiptReply}
 use Rattle.edge.specs.declared.SumReply.{SumReply}
+use Rattle.edge.specs.declared.TallyReply.{TallyReply}
 
 -- the refusal that is told; 0 stands for none, as numbers start at 1
 abbrev pub refusalIn : Told → Refusal
@@ -56,4 +61,30 @@ sumReply t = record {
   place = refusalIn t .place;
   detail = refusalIn t .detail;
   amount = valueAt 0 t;
+}
+
+unfoldable pub tallyReply : Told → TallyReply
+tallyReply t = record {
+  number = refusalIn t .number;
+  place = refusalIn t .place;
+  detail = refusalIn t .detail;
+  entries = valueAt 0 t;
+}
+
+-- A sale that is read is told by its fields, as the question is a struct in it.
+abbrev pub refusalOf : Lookup → Refusal
+refusalOf Found = refuse 0 0 0
+refusalOf (Refused why) = why
+
+unfoldable pub bookingReply : Booking → BookingReply
+bookingReply b = record {
+  number = refusalOf (b .outcome) .number;
+  place = refusalOf (b .outcome) .place;
+  detail = refusalOf (b .outcome) .detail;
+  entry = b .entry;
+  sequence = b .sequence;
+  till = b .till;
+  status = b .status;
+  question = b .question;
+  parts = b .parts;
 }

@@ -5,15 +5,20 @@ ghost use Rattle.bundle.specs.Verdict.{verdictOf};
 ghost use Rattle.fares.specs.Fare.{fareOf};
 ghost use Rattle.sales.specs.Sales.{saleAnswer, saleWords, cancelAnswer, cancelWords};
 ghost use Rattle.sales.specs.Balances.{balanceAnswer, totalAnswer};
-ghost use Rattle.offers.specs.Answers.{answers, verdictTells, fareTells, receiptTells, sumTells};
-ghost use Rattle.edge.specs.Replies.{judgementReply, quoteReply, receiptReply, sumReply};
+ghost use Rattle.sales.specs.Reading.{countAnswer, entryAnswer, findAnswer};
+ghost use Rattle.offers.specs.Answers.{answers, verdictTells, fareTells, receiptTells, sumTells, tallyTells};
+ghost use Rattle.edge.specs.Replies.{judgementReply, quoteReply, receiptReply, sumReply, tallyReply, refusalOf, bookingReply};
+use common::Refusal;
+use offers::Booking;
 use offers::Judgement;
+use offers::Lookup;
 use offers::Outcome;
 use offers::Pricing;
 use offers::Question;
 use offers::Quote;
 use offers::Receipt;
 use offers::Sum;
+use offers::Tally;
 
 // Each reply has number, place and detail of a refusal, all 0 where there is none, and then the values.
 #[repr(C)]
@@ -49,6 +54,27 @@ pub struct SumReply {
     pub place: u64,
     pub detail: u64,
     pub amount: u64,
+}
+
+#[repr(C)]
+pub struct TallyReply {
+    pub number: u64,
+    pub place: u64,
+    pub detail: u64,
+    pub entries: u64,
+}
+
+#[repr(C)]
+pub struct BookingReply {
+    pub number: u64,
+    pub place: u64,
+    pub detail: u64,
+    pub entry: u64,
+    pub sequence: u64,
+    pub till: u32,
+    pub status: u32,
+    pub question: Question,
+    pub parts: [u32; 8],
 }
 
 const REFUSED: u32 = 0;
@@ -157,6 +183,55 @@ fn flatten_sum(sum: Sum) -> SumReply
     }
 }
 
+fn flatten_tally(tally: Tally) -> TallyReply
+    ensures { λ r. ⌜ r ≡ tallyReply (tallyTells tally) ⌝ }
+{
+    match tally {
+        Tally::Entries(entries) => TallyReply {
+            number: 0,
+            place: 0,
+            detail: 0,
+            entries: entries as u64,
+        },
+        Tally::Refused(why) => TallyReply {
+            number: why.number as u64,
+            place: why.place as u64,
+            detail: why.detail as u64,
+            entries: 0,
+        },
+    }
+}
+
+// Why nothing was found; all zero where something was.
+fn refusal_in(outcome: Lookup) -> Refusal
+    ensures { λ r. ⌜ r ≡ refusalOf outcome ⌝ }
+{
+    match outcome {
+        Lookup::Found => common::refuse(0, 0, 0),
+        Lookup::Refused(why) => why,
+    }
+}
+
+fn flatten_booking(booking: Booking) -> BookingReply
+    ensures { λ r. ⌜ r ≡ bookingReply booking ⌝ }
+{
+    let outcome = booking.outcome;
+    let why = refusal_in(outcome);
+    let question = booking.question;
+    let parts = booking.parts;
+    BookingReply {
+        number: why.number as u64,
+        place: why.place as u64,
+        detail: why.detail as u64,
+        entry: booking.entry as u64,
+        sequence: booking.sequence as u64,
+        till: booking.till,
+        status: booking.status,
+        question,
+        parts,
+    }
+}
+
 #[no_mangle]
 pub extern "C" fn offers_verdict(bundle: &[u8]) -> JudgementReply
     ensures { λ r. ⌜ r ≡ judgementReply (verdictTells (verdictOf (now (bundle .entry)))) ⌝ }
@@ -205,4 +280,25 @@ pub extern "C" fn offers_total(book: &[u32]) -> SumReply
     ensures { λ r. ⌜ r ≡ sumReply (sumTells (totalAnswer (now (book .entry)))) ⌝ }
 {
     flatten_sum(offers::total(book))
+}
+
+#[no_mangle]
+pub extern "C" fn offers_count(book: &[u32]) -> TallyReply
+    ensures { λ r. ⌜ r ≡ tallyReply (tallyTells (countAnswer (now (book .entry)))) ⌝ }
+{
+    flatten_tally(offers::count(book))
+}
+
+#[no_mangle]
+pub extern "C" fn offers_entry(book: &[u32], entry: usize) -> BookingReply
+    ensures { λ r. ⌜ r ≡ bookingReply (entryAnswer (now (book .entry)) entry) ⌝ }
+{
+    flatten_booking(offers::entry(book, entry))
+}
+
+#[no_mangle]
+pub extern "C" fn offers_find(book: &[u32], till: u32, sequence: u64) -> BookingReply
+    ensures { λ r. ⌜ r ≡ bookingReply (findAnswer (now (book .entry)) till sequence) ⌝ }
+{
+    flatten_booking(offers::find(book, till, sequence))
 }
