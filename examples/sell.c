@@ -11,7 +11,7 @@
 /* One byte more than a bundle may have, so that the engine sees and refuses one that is too long. */
 static uint8_t bundle[1048576 + 1];
 
-/* A new book is all zeros. A till would keep it in a file between its runs. */
+/* A new book is all zeros. A till keeps it in a file between its runs: see store.h. */
 static uint32_t book[OFFERS_BOOK_WORDS];
 static uint32_t book_before[OFFERS_BOOK_WORDS];
 

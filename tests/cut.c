@@ -11,6 +11,7 @@
  *
  *     CUT_FOLDER=PATH    the folder; where it is not set, nothing is cut
  *     CUT_AT=N           the process is killed (SIGKILL) just before step N
+ *     CUT_AT=exit        the process is killed when it is about to end by itself
  *     CUT_BYTES=B        the process is killed when B bytes in all were written: a write that would cross that border
  *                        stops at it. With 0 it is killed before the first write
  *     CUT_ERROR=NAME     the process is not killed: step N fails with NAME (ENOSPC, EIO or EINTR), and after B bytes
@@ -21,6 +22,7 @@
  *                        Without it, all that was written stands
  *     CUT_LOG=FILE       each step is added to FILE as a line: its call and the names without their folders */
 #define _GNU_SOURCE
+#undef _FORTIFY_SOURCE /* whose open is another one */
 #include <errno.h>
 #include <fcntl.h>
 #include <limits.h>
@@ -55,7 +57,7 @@ static struct watched files[MOST_FILES];
 static struct renamed renames[MOST_RENAMES];
 static int rename_count;
 
-static int ready, power_fails, error;
+static int ready, power_fails, cut_at_exit, error;
 static const char *folder, *log_path;
 static long step_count, cut_at, bytes_left = NONE, most_at_once, interrupted;
 
@@ -85,6 +87,7 @@ static void read_settings(void) {
     folder = getenv("CUT_FOLDER");
     log_path = getenv("CUT_LOG");
     cut_at = number_in("CUT_AT", 0);
+    cut_at_exit = getenv("CUT_AT") != NULL && strcmp(getenv("CUT_AT"), "exit") == 0;
     bytes_left = number_in("CUT_BYTES", NONE);
     most_at_once = number_in("CUT_SHORT", 0);
     power_fails = number_in("CUT_POWER", 0) != 0;
@@ -180,7 +183,7 @@ static void undo_renames(void) {
 static void lose_power(void) {
     for (int i = 0; i < MOST_FILES; i++) {
         if (!files[i].used || !files[i].unflushed || files[i].kept == NONE) continue;
-        if (ftruncate(files[i].kept, files[i].flushed_length) != 0) give_up("what was not flushed cannot be taken back");
+        if (ftruncate(files[i].kept, files[i].flushed_length) != 0) give_up("unflushed bytes cannot be taken back");
     }
     undo_renames();
 }
@@ -189,6 +192,11 @@ static void die(void) {
     if (power_fails) lose_power();
     kill(getpid(), SIGKILL);
     for (;;) pause();
+}
+
+__attribute__((destructor)) static void at_exit(void) {
+    read_settings();
+    if (cut_at_exit) die();
 }
 
 static void log_step(const char *call, const char *name, const char *further) {

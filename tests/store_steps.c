@@ -1,5 +1,5 @@
-/* What tests/stored asks of examples/store.c, in a program of its own; rust/examples/store_steps.rs is the same over the
- * Rust crate.
+/* What tests/stored asks of examples/store.c, in a program of its own; rust/examples/store_steps.rs is the same over
+ * the Rust crate.
  *
  *     store_steps sell PATH BUNDLE SEQUENCE   sells one more ticket into the book at PATH, a new one if there is none
  *     store_steps tell PATH                   tells how many sales the book at PATH has, and what they come to
@@ -48,6 +48,7 @@ static void sell(const char *path, const char *bundle_path, uint64_t sequence) {
     }
     stop_unless_done(store_save(path, book));
     puts("saved");
+    fflush(stdout);
 }
 
 static void tell(const char *path) {
@@ -78,8 +79,10 @@ static size_t notice_flipped_bits(void) {
 }
 
 static size_t notice_torn_lengths(void) {
-    for (size_t length = 0; length <= sizeof stored; length++)
-        if (length != STORE_BYTES) must_be(store_from_bytes(stored, length, book), STORE_WRONG_LENGTH, "length", length);
+    for (size_t length = 0; length <= sizeof stored; length++) {
+        if (length == STORE_BYTES) continue;
+        must_be(store_from_bytes(stored, length, book), STORE_WRONG_LENGTH, "length", length);
+    }
     return sizeof stored;
 }
 

@@ -8,12 +8,12 @@ use std::path::{Path, PathBuf};
 
 impl Book {
     /// Saves the book, so that the file is the old book or the new one wherever this is cut off: its
-    /// [stored form](Book::to_bytes) is written beside the file, to `PATH.new`, flushed, and renamed to `PATH`; then the
-    /// folder is flushed. After `Ok` the new book stands, even if the power fails: on a disk that keeps what it was
+    /// [stored form](Book::to_bytes) is written beside the file, to `PATH.new`, flushed, and renamed to `PATH`; then
+    /// the folder is flushed. After `Ok` the new book stands, even if the power fails: on a disk that keeps what it was
     /// told to flush.
     ///
-    /// What was left in `PATH.new` is overwritten. One process at a time may save to a path. The file is a new one, with
-    /// the permissions of a new one; if `PATH` is a link, the link is replaced.
+    /// What was left in `PATH.new` is overwritten. One process at a time may save to a path. The file is a new one,
+    /// with the permissions of a new one; if `PATH` is a link, the link is replaced.
     ///
     /// # Errors
     ///

@@ -19,8 +19,8 @@ pub const STORED_BYTES: usize = CHECKSUM_AT + 4;
 const _: () = assert!(WORDS as usize == BOOK_WORDS && STORED_BYTES == 65_560);
 
 impl Book {
-    /// The stored form of the book, [`STORED_BYTES`] bytes: `OFFERSBK`, the version of the form (1), the count of words,
-    /// the words, and the CRC-32 of all that. Each number is 32 bits, little-endian.
+    /// The stored form of the book, [`STORED_BYTES`] bytes: `OFFERSBK`, the version of the form (1), the count of
+    /// words, the words, and the CRC-32 of all that. Each number is 32 bits, little-endian.
     ///
     /// ```
     /// use offers::{Book, StoredError, STORED_BYTES};
