@@ -11,13 +11,17 @@
  * A book is written beside the old one, to PATH.new, flushed, and renamed to PATH; then the folder is flushed. So PATH
  * is the old book or the new one wherever this is cut off. PATH.new is never read, and is overwritten if it is there.
  *
- * One process at a time may save to a path. The file is a new one, with the permissions of a new one; if PATH is a link,
- * the link is replaced. Nothing here needs the heap; a load takes some 136,000 bytes of stack. */
+ * One process at a time may save to a path. The file is a new one, with the permissions of a new one; if PATH is a
+ * link, the link is replaced. Nothing here needs the heap; a load takes some 132,000 bytes of stack. */
 #ifndef STORE_H
 #define STORE_H
 
 #include <stddef.h>
 #include <stdint.h>
+
+#ifdef __cplusplus
+extern "C" {
+#endif
 
 #define STORE_BYTES 65560
 #define STORE_FORM 1
@@ -50,5 +54,9 @@ int store_save(const char *path, const uint32_t *book);
 
 /* Loads a book: STORE_NO_FILE, STORE_NOT_READ, then as store_from_bytes. */
 int store_load(const char *path, uint32_t *book);
+
+#ifdef __cplusplus
+}
+#endif
 
 #endif
