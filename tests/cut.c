@@ -147,7 +147,9 @@ static void watch(int fd, const char *name, int folder_itself) {
         files[i] = (struct watched){.used = 1, .fd = fd, .kept = NONE, .unflushed = !folder_itself};
         files[i].flushed_length = length_of(fd);
         snprintf(files[i].name, sizeof files[i].name, "%s", name);
-        if (power_fails && !folder_itself) files[i].kept = fcntl(fd, F_DUPFD_CLOEXEC, 512);
+        if (!power_fails || folder_itself) return;
+        files[i].kept = fcntl(fd, F_DUPFD_CLOEXEC, 512);
+        if (files[i].kept < 0) give_up("no room for files of its own");
         return;
     }
     give_up("more files than can be watched");

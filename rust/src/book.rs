@@ -120,7 +120,7 @@ impl Book {
         unless_unknown(sale_of(&raw::find(&self.words, number)))
     }
 
-    /// The sales, cancelled ones too, in the order of booking.
+    /// The sales, cancelled ones too, in the order of booking. Each is asked of the engine, which checks the book anew.
     ///
     /// ```
     /// use offers::Book;
