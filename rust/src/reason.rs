@@ -65,7 +65,7 @@ reasons! {
     22 NumberOutside "the till or the sequence is 0 or too large"
     23 NumberTaken "the sale number is held by another question"
     24 BookFull "the book has 256 sales, and the sale number is new"
-    25 SaleUnknown "the sale is not in the book"
+    25 SaleUnknown "the sale is not in this book"
     // numbers: end
 }
 
