@@ -27,28 +27,58 @@ extern "C" {
 #define OFFERS_VERSION_PATCH 0
 
 /* The numbers of refusals: when; place, detail (0 where nothing is said). A call tells the first that it comes to. */
+/* numbers: begin */
 enum offers_number {
     OFFERS_ANSWERED = 0,
-    OFFERS_BUNDLE_TOO_LONG = 1,    /* the bundle has more than 1,048,576 bytes */
-    OFFERS_MARK_UNKNOWN = 2,       /* a mark is unknown, or one byte is left; record */
-    OFFERS_RECORD_SHORT = 3,       /* a record is shorter than its length; record */
-    OFFERS_FIELD_BROKEN = 4,       /* a field breaks its rule; record, field */
-    OFFERS_OTHER_TRANSFEROR = 5,   /* another transferor than the first record's; record */
-    OFFERS_KEY_REPEATED = 6,       /* a key is repeated; later record, first earlier one */
-    OFFERS_LINK_MISSING = 7,       /* a link is missing; record, 1 no RE of the code, 2 no CO, 3 no AR, 4 no ME of the offer */
-    OFFERS_QUESTION_LIMITS = 11,   /* the question, or the railway of a balance, is outside its limits */
-    OFFERS_NO_CONDITIONS = 12,     /* no CO of the offer for the railway or for all; leg */
-    OFFERS_DAY_OUTSIDE = 13,       /* the day is outside that CO's period; leg */
-    OFFERS_PERSONS_OUTSIDE = 14,   /* the persons are outside that CO's fields 28 and 29; leg */
-    OFFERS_CONDITION_UNREAD = 15,  /* a condition is set that the engine does not read; leg, field */
-    OFFERS_FARE_TOO_HIGH = 16,     /* the fare is above 4,294,967,295 */
-    OFFERS_CARD_TWICE = 17,        /* the question gives a card twice */
-    OFFERS_BOOK_UNSOUND = 21,      /* the book is unsound */
-    OFFERS_NUMBER_LIMITS = 22,     /* till is not 1 to 65,535, or sequence not 1 to 4,294,967,295 */
-    OFFERS_NUMBER_TAKEN = 23,      /* the sale number is held by another question; entry */
-    OFFERS_BOOK_FULL = 24,         /* a new sale number, and 256 entries */
-    OFFERS_SALE_UNKNOWN = 25       /* no such sale in the book */
+    OFFERS_BUNDLE_TOO_LONG = 1,   /* the bundle has more than 1,048,576 bytes */
+    OFFERS_MARK_UNKNOWN = 2,      /* a mark is unknown, or one byte is left; record */
+    OFFERS_RECORD_SHORT = 3,      /* the last record is shorter than its length; record */
+    OFFERS_FIELD_BROKEN = 4,      /* a field breaks its rule; record, field */
+    OFFERS_OTHER_TRANSFEROR = 5,  /* a record has another transferor than the first one; record */
+    OFFERS_KEY_REPEATED = 6,      /* a record repeats the key of an earlier one; later record, earlier record */
+    OFFERS_LINK_MISSING = 7,      /* a record needs another one that is not in the bundle; record, 1 no RE, 2 no CO,
+                                     3 no AR, 4 no ME */
+    OFFERS_QUESTION_LIMITS = 11,  /* the question, or the railway of a balance, is outside its limits */
+    OFFERS_NO_CONDITIONS = 12,    /* the offer has no conditions for the railway of a leg; leg */
+    OFFERS_DAY_OUTSIDE = 13,      /* the day is outside the period of a leg's conditions; leg */
+    OFFERS_PERSONS_OUTSIDE = 14,  /* the persons are fewer or more than a leg's conditions allow; leg */
+    OFFERS_CONDITION_UNREAD = 15, /* a leg's conditions have one that the engine does not read; leg, field */
+    OFFERS_FARE_TOO_HIGH = 16,    /* the fare is above 4,294,967,295 cents */
+    OFFERS_CARD_TWICE = 17,       /* the question gives a card twice */
+    OFFERS_BOOK_UNSOUND = 21,     /* the book is not sound */
+    OFFERS_NUMBER_LIMITS = 22,    /* the till or the sequence is 0 or too large */
+    OFFERS_NUMBER_TAKEN = 23,     /* the sale number is held by another question; entry */
+    OFFERS_BOOK_FULL = 24,        /* the book has 256 sales, and the sale number is new */
+    OFFERS_SALE_UNKNOWN = 25      /* the sale is not in this book */
 };
+
+/* What a number means, in words. */
+static inline const char *offers_text(uint64_t number) {
+    switch (number) {
+    case OFFERS_ANSWERED: return "answered";
+    case OFFERS_BUNDLE_TOO_LONG: return "the bundle has more than 1,048,576 bytes";
+    case OFFERS_MARK_UNKNOWN: return "a mark is unknown, or one byte is left";
+    case OFFERS_RECORD_SHORT: return "the last record is shorter than its length";
+    case OFFERS_FIELD_BROKEN: return "a field breaks its rule";
+    case OFFERS_OTHER_TRANSFEROR: return "a record has another transferor than the first one";
+    case OFFERS_KEY_REPEATED: return "a record repeats the key of an earlier one";
+    case OFFERS_LINK_MISSING: return "a record needs another one that is not in the bundle";
+    case OFFERS_QUESTION_LIMITS: return "the question, or the railway of a balance, is outside its limits";
+    case OFFERS_NO_CONDITIONS: return "the offer has no conditions for the railway of a leg";
+    case OFFERS_DAY_OUTSIDE: return "the day is outside the period of a leg's conditions";
+    case OFFERS_PERSONS_OUTSIDE: return "the persons are fewer or more than a leg's conditions allow";
+    case OFFERS_CONDITION_UNREAD: return "a leg's conditions have one that the engine does not read";
+    case OFFERS_FARE_TOO_HIGH: return "the fare is above 4,294,967,295 cents";
+    case OFFERS_CARD_TWICE: return "the question gives a card twice";
+    case OFFERS_BOOK_UNSOUND: return "the book is not sound";
+    case OFFERS_NUMBER_LIMITS: return "the till or the sequence is 0 or too large";
+    case OFFERS_NUMBER_TAKEN: return "the sale number is held by another question";
+    case OFFERS_BOOK_FULL: return "the book has 256 sales, and the sale number is new";
+    case OFFERS_SALE_UNKNOWN: return "the sale is not in this book";
+    default: return "refused for a reason that is not known here";
+    }
+}
+/* numbers: end */
 
 /* What came of a sale or a cancel. */
 enum offers_outcome {
