@@ -6,6 +6,7 @@ import subprocess
 ROOT = pathlib.Path(__file__).resolve().parent.parent
 PROCESSORS = ("x86_64", "aarch64")
 HEAP = {"malloc", "calloc", "realloc", "free", "aligned_alloc", "posix_memalign", "mmap", "brk", "sbrk"}
+SYSTEM_CALLS = {"x86_64": {"syscall", "sysenter", "int"}, "aarch64": {"svc", "hvc", "smc"}}
 # all that a program with no C library has to bring
 ALONE = """typedef __SIZE_TYPE__ size_t;
 void *memset(void *at, int byte, size_t count) {
@@ -54,6 +55,10 @@ class Archive:
     def is_of_its_processor(self):
         machine = {"x86_64": "X86-64", "aarch64": "AArch64"}[self.processor]
         return machine in said("tools/llvm", "readelf", "--file-header", self.path)
+
+    def system_calls(self):
+        code = said("tools/llvm", "objdump", "-d", "--no-show-raw-insn", self.path)
+        return SYSTEM_CALLS[self.processor] & set(re.findall(r"^ +[0-9a-f]+:\s+(\w+)", code, re.M))
 
     def stack_is_executable(self):
         note = re.search(r"\.note\.GNU-stack +PROGBITS( +[0-9a-f]+){4} +(?P<flags>[A-Z]*) ", said("tools/llvm", "readelf", "-SW", self.path))
