@@ -1,4 +1,5 @@
-"""What an archive target/library/PROCESSOR/liboffers.a says of itself, read by the kit's own tools, which know every processor."""
+"""What an archive target/library/PROCESSOR/liboffers.a says of itself, read by the kit's own tools, which know every
+processor."""
 import pathlib
 import re
 import subprocess
@@ -17,7 +18,8 @@ void *memset(void *at, int byte, size_t count) {
 
 
 def ran(*words, in_folder=ROOT, **more):
-    return subprocess.run([str(word) for word in words], cwd=in_folder, stdout=subprocess.PIPE, stderr=subprocess.STDOUT, text=True, **more)
+    words = [str(word) for word in words]
+    return subprocess.run(words, cwd=in_folder, stdout=subprocess.PIPE, stderr=subprocess.STDOUT, text=True, **more)
 
 
 def said(*words, **more):
@@ -40,7 +42,8 @@ class Archive:
         return pathlib.Path(root) / "target" / "library" / self.processor / "liboffers.a"
 
     def names(self, which):
-        return set(re.findall(r"\S+$", said("tools/llvm", "nm", "--quiet", "--format=just-symbols", which, self.path), re.M)) - {"edge.o:"}
+        listed = said("tools/llvm", "nm", "--quiet", "--format=just-symbols", which, self.path)
+        return {line for line in listed.split() if not line.endswith(".o:")}
 
     def undefined(self):
         return self.names("--undefined-only")
@@ -61,7 +64,8 @@ class Archive:
         return SYSTEM_CALLS[self.processor] & set(re.findall(r"^ +[0-9a-f]+:\s+(\w+)", code, re.M))
 
     def stack_is_executable(self):
-        note = re.search(r"\.note\.GNU-stack +PROGBITS( +[0-9a-f]+){4} +(?P<flags>[A-Z]*) ", said("tools/llvm", "readelf", "-SW", self.path))
+        sections = said("tools/llvm", "readelf", "-SW", self.path)
+        note = re.search(r"\.note\.GNU-stack +PROGBITS( +[0-9a-f]+){4} +(?P<flags>[A-Z]*) ", sections)
         return note is None or "X" in note["flags"]
 
     def link(self, *words):
