@@ -38,6 +38,12 @@ static void balance(void) { number = offers_balance(book, OFFERS_BOOK_WORDS, 1).
 
 static void total(void) { number = offers_total(book, OFFERS_BOOK_WORDS).number; }
 
+static void count(void) { number = offers_count(book, OFFERS_BOOK_WORDS).number; }
+
+static void entry(void) { number = offers_entry(book, OFFERS_BOOK_WORDS, ENTRIES - 1).number; }
+
+static void find(void) { number = offers_find(book, OFFERS_BOOK_WORDS, TILL, sequence).number; }
+
 /* ---- the stack */
 
 static size_t depth_of(void (*call)(void)) {
@@ -79,5 +85,8 @@ int main(void) {
     tell_depth("cancel, 255 entries", 0, cancel);
     tell_depth("balance, 255 entries", 0, balance);
     tell_depth("total, 255 entries", 0, total);
+    tell_depth("count, 255 entries", 0, count);
+    tell_depth("entry, 255 entries", 0, entry);
+    tell_depth("find, 255 entries", 0, find);
     return 0;
 }
