@@ -1,15 +1,16 @@
-/* The offer engine for C and C++. Link with liboffers.a, which tools/library builds for x86-64 and for 64-bit Arm Linux.
+/* The offer engine for C and C++. Link with liboffers.a, which tools/library builds for x86-64 and 64-bit Arm Linux.
  *
  * Every call answers for every argument. It checks bundle, question and book itself, reads nothing but what it is lent,
  * writes nothing but the book of a sale or a cancel, and keeps nothing between calls. What no call can check:
  *
- * - that behind each pointer lie as many bytes (bundle) or 32-bit words (book) as its length says. NULL will do where the length is 0;
+ * - that behind each pointer lie as many bytes (bundle) or 32-bit words (book) as its length says. NULL will do where
+ *   the length is 0;
  * - that a book is aligned for uint32_t. A bundle may lie anywhere;
- * - that nothing else writes to the bundle or the book while the call runs, or reads the book while a sale or a cancel runs, and that
- *   the two do not overlap. Calls on different books may run at once.
+ * - that nothing else writes to the bundle or the book while the call runs, or reads the book while a sale or a cancel
+ *   runs, and that the two do not overlap. Calls on different books may run at once.
  *
- * `number` is 0 where a call is answered. Otherwise it is refused, by one of the numbers below: `place` and `detail` say where, every
- * other value is 0, and no word of the book is changed. Records, legs and entries count from 0. */
+ * `number` is 0 where a call is answered. Otherwise it is refused, by one of the numbers below: `place` and `detail`
+ * say where, every other value is 0, and no word of the book is changed. Records, legs and entries count from 0. */
 #ifndef OFFERS_H
 #define OFFERS_H
 
@@ -20,7 +21,7 @@
 extern "C" {
 #endif
 
-/* The version of the engine: a change of the first number changes what a program that was compiled before may rely on. */
+/* The version of the engine. The first number rises where a program that was written before has to be changed. */
 #define OFFERS_VERSION "1.0.0"
 #define OFFERS_VERSION_MAJOR 1
 #define OFFERS_VERSION_MINOR 0
@@ -95,7 +96,7 @@ enum offers_status {
     OFFERS_WAS_CANCELLED = 1
 };
 
-/* The words of a book: any other length is unsound. A new book is this many zeros; keep it as it stands between calls. */
+/* The words of a book: any other length is unsound. A new book is all zeros; keep it as it stands between calls. */
 #define OFFERS_BOOK_WORDS 16385
 #define OFFERS_MOST_ENTRIES 256
 
@@ -117,11 +118,11 @@ typedef struct {
 } offers_leg;
 
 typedef struct {
-    uint32_t offer;     /* 1 to 99,999 */
-    uint32_t day;       /* YYYYMMDD, a real date of the years 1583 to 9999 */
-    uint32_t persons;   /* 1 to 99 */
-    uint32_t cards[OFFERS_MOST_CARDS];  /* up to four of 1 to 999, all different, then zeros; their order is part of the question */
-    uint32_t count;     /* legs, 1 to 8; what stands in `legs` after them does not matter */
+    uint32_t offer;                    /* 1 to 99,999 */
+    uint32_t day;                      /* YYYYMMDD, a real date of the years 1583 to 9999 */
+    uint32_t persons;                  /* 1 to 99 */
+    uint32_t cards[OFFERS_MOST_CARDS]; /* 1 to 999, all different, then zeros; their order is part of the question */
+    uint32_t count;                    /* legs, 1 to 8; what stands in `legs` after them does not matter */
     offers_leg legs[OFFERS_MOST_LEGS];
 } offers_question;
 
@@ -132,15 +133,15 @@ typedef struct {
 
 typedef struct {
     uint64_t number, place, detail;
-    uint64_t fare;     /* the sum of the parts, in cents */
+    uint64_t fare;                    /* the sum of the parts, in cents */
     uint32_t parts[OFFERS_MOST_LEGS]; /* one a leg, zeros after them */
 } offers_quote;
 
 typedef struct {
     uint64_t number, place, detail;
-    uint32_t outcome;   /* enum offers_outcome */
-    uint32_t cancelled; /* 1 if the sale is cancelled now, else 0 */
-    uint32_t parts[OFFERS_MOST_LEGS];  /* as priced at the first booking */
+    uint32_t outcome;                 /* enum offers_outcome */
+    uint32_t cancelled;               /* 1 if the sale is cancelled now, else 0 */
+    uint32_t parts[OFFERS_MOST_LEGS]; /* as priced at the first booking */
 } offers_receipt;
 
 typedef struct {
@@ -155,12 +156,12 @@ typedef struct {
 
 typedef struct {
     uint64_t number, place, detail;
-    uint64_t entry;    /* which entry of the book it is */
+    uint64_t entry; /* which entry of the book it is */
     uint64_t sequence;
     uint32_t till;
-    uint32_t status;   /* enum offers_status */
-    offers_question question; /* with zeros in the slots of `legs` that are not used */
-    uint32_t parts[OFFERS_MOST_LEGS];  /* as priced at the first booking */
+    uint32_t status;                  /* enum offers_status */
+    offers_question question;         /* as it was asked, with zeros in the legs that are not used */
+    uint32_t parts[OFFERS_MOST_LEGS]; /* as priced at the first booking */
 } offers_booking;
 
 /* Judges a bundle, of any length: 1 to 7, or the count of its records. */
@@ -169,10 +170,11 @@ offers_judgement offers_verdict(const uint8_t *bundle, size_t length);
 /* Prices a ticket: 1 to 7, 11, 17, then the legs from the first, each for 12 to 15, then 16. */
 offers_quote offers_fare(const uint8_t *bundle, size_t length, offers_question question);
 
-/* Books a sale under its number, till and sequence: 21, 22, 23, 24, then as offers_fare. The same question under a number that is in the
- * book is OFFERS_ALREADY_BOOKED, with its first parts and whatever the bundle: a till that got no answer sends its sale again. */
-offers_receipt offers_sale(uint32_t *book, size_t words, const uint8_t *bundle, size_t length, uint32_t till, uint64_t sequence,
-                           offers_question question);
+/* Books a sale under its number, till and sequence: 21, 22, 23, 24, then as offers_fare. The same question under a number
+ * that is in the book is OFFERS_ALREADY_BOOKED, with its first parts and whatever the bundle: a till that got no answer
+ * sends its sale again. A number is known only in its own book: ask the earlier ones by offers_find. */
+offers_receipt offers_sale(uint32_t *book, size_t words, const uint8_t *bundle, size_t length, uint32_t till,
+                           uint64_t sequence, offers_question question);
 
 /* Cancels a sale: 21, 22, 25. Its number stays taken. */
 offers_receipt offers_cancel(uint32_t *book, size_t words, uint32_t till, uint64_t sequence);
