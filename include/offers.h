@@ -170,9 +170,9 @@ offers_judgement offers_verdict(const uint8_t *bundle, size_t length);
 /* Prices a ticket: 1 to 7, 11, 17, then the legs from the first, each for 12 to 15, then 16. */
 offers_quote offers_fare(const uint8_t *bundle, size_t length, offers_question question);
 
-/* Books a sale under its number, till and sequence: 21, 22, 23, 24, then as offers_fare. The same question under a number
- * that is in the book is OFFERS_ALREADY_BOOKED, with its first parts and whatever the bundle: a till that got no answer
- * sends its sale again. A number is known only in its own book: ask the earlier ones by offers_find. */
+/* Books a sale under its number, till and sequence: 21, 22, 23, 24, then as offers_fare. The same question under a
+ * number that is in the book is OFFERS_ALREADY_BOOKED, with its first parts and whatever the bundle: a till that got no
+ * answer sends its sale again. A number is known only in its own book: ask the earlier ones by offers_find. */
 offers_receipt offers_sale(uint32_t *book, size_t words, const uint8_t *bundle, size_t length, uint32_t till,
                            uint64_t sequence, offers_question question);
 
