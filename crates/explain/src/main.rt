@@ -3,6 +3,7 @@ use names::field_names;
 use names::words;
 use offers::Judgement;
 
+mod hints;
 mod places;
 mod refusals;
 
@@ -32,6 +33,10 @@ fn tell_count(bundle: &[u8], records: usize, table: u32) {
 }
 
 fn tell_accepted(bundle: &[u8], records: usize) {
+    if records == 0 {
+        words::say(b"The bundle is empty: it has no record.\n");
+        return;
+    }
     words::say(b"The bundle is accepted: every record keeps the rules. Its records by table:\n");
     tell_count(bundle, records, layout::CO);
     tell_count(bundle, records, layout::RE);

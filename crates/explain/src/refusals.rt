@@ -1,4 +1,5 @@
 // Each refusal of a bundle in words: what is wrong, with which record, and what would be right.
+use super::hints;
 use super::places::body_at;
 use super::places::place_of;
 use bundle::walk::table_at;
@@ -11,6 +12,7 @@ use names::field_names::say_mark;
 use names::field_names::say_table;
 use names::words::say;
 use names::words::say_bytes;
+use names::words::say_delivered;
 use names::words::say_number;
 use names::words::say_quoted;
 use names::words::sum;
@@ -34,6 +36,9 @@ pub fn tell(bundle: &[u8], why: Refusal) {
 
 fn tell_too_long() {
     say(b"The bundle is too long: it has more than 1048576 bytes. No record was looked at.\n");
+    say(
+        b"Deliver fewer offers in one bundle. Keep the records of an offer together, as they need each other.\n",
+    );
 }
 
 // What names a record within its table: offer and railway, or code, or all three.
@@ -93,6 +98,7 @@ fn tell_no_mark(bundle: &[u8], record: usize) {
     }
     say_quoted(found);
     say(b".\n");
+    hints::tell_mark_mistakes(bundle, at);
     tell_record_before(bundle, record);
 }
 
@@ -110,13 +116,18 @@ fn tell_record_before(bundle: &[u8], record: usize) {
 fn tell_cut_short(bundle: &[u8], record: usize) {
     let at = place_of(bundle, record);
     let body = body_at(bundle, at);
+    let length = layout::length_of(table_at(bundle, at));
     say(b"The bundle ends inside a record.\n");
     tell_record(bundle, record, at);
     say(b"Behind the mark it needs ");
-    say_number(layout::length_of(table_at(bundle, at)));
+    say_number(length);
     say(b" bytes; the bundle has ");
     say_number(body.len());
-    say(b" left.\n");
+    say(b" left, which is ");
+    say_number(common::less(length, body.len()));
+    say(
+        b" too few.\nThe usual causes: the delivery was cut off, or this record lost bytes. Send it again.\n",
+    );
 }
 
 fn tell_broken_field(bundle: &[u8], record: usize, field: usize) {
@@ -130,9 +141,10 @@ fn tell_broken_field(bundle: &[u8], record: usize, field: usize) {
     tell_record(bundle, record, at);
     tell_field(table, row, at);
     say(b"Delivered: ");
-    say_quoted(fields::field(body, row.start, row.length));
+    say_delivered(fields::field(body, row.start, row.length));
     say(b".\n");
-    names::field_rules::say_rule(of_table, field, body);
+    names::field_rules::say_rule(of_table, field, body, at);
+    hints::tell_field_mistakes(bundle, at, row);
 }
 
 // A field's number and name, and where it stands in the record and in the bundle.
@@ -173,6 +185,7 @@ fn tell_other_transferor(bundle: &[u8], record: usize) {
     say(b"; that of record 0 is ");
     say_quoted(fields::transferor(body_at(bundle, 0)));
     say(b". All records of a bundle have the same transferor.\n");
+    say(b"Take the record out, or correct its field 1.\n");
 }
 
 fn tell_repeated_key(bundle: &[u8], record: usize, earlier: usize) {
@@ -187,6 +200,9 @@ fn tell_repeated_key(bundle: &[u8], record: usize, earlier: usize) {
     say(b" of the bundle, has the same key: ");
     say_key(table_at(bundle, before), body_at(bundle, before));
     say(b".\nA key may stand only once in its table; the days are no part of it.\n");
+    say(
+        b"Keep one of the two. Records for different seasons under one key cannot stand together.\n",
+    );
 }
 
 fn tell_missing_link(bundle: &[u8], record: usize, detail: usize) {
@@ -202,7 +218,11 @@ fn tell_missing_link(bundle: &[u8], record: usize, detail: usize) {
         4 => tell_flag_wants(37, layout::ME, body),
         _ => say(b"Another record"),
     }
-    say(b" is needed; there is none.\n");
+    say(b" is needed; there is none.\nAdd that record");
+    if 2 < detail {
+        say(b", or set the flag to N");
+    }
+    say(b".\n");
 }
 
 fn tell_code_wanted(body: &[u8]) {

@@ -8,12 +8,13 @@ use layout::fields;
 use layout::rows;
 use layout::rules;
 
-pub fn say_rule(of_table: &[[u32; 7]], field: usize, body: &[u8]) {
+// The rule of a field of a record whose mark stands at a place of its bundle.
+pub fn say_rule(of_table: &[[u32; 7]], field: usize, body: &[u8], at: usize) {
     let row = rows::of_field(of_table, field);
     let kind = row.kind;
     say(b"It must be ");
     match kind {
-        rules::TEXT => say_text_rule(body, row.start, row.length),
+        rules::TEXT => say_text_rule(body, row.start, row.length, at),
         rules::TRANSFEROR => say(b"four digits, 0001 to 9999"),
         rules::RAILWAY => say(b"four digits, 0000 to 9999, where 0000 stands for all railways"),
         rules::NUMBER => say_limits(row.least, row.most, row.length),
@@ -42,17 +43,19 @@ fn say_limits_or_blank(least: u32, most: u32, width: usize) {
     say(b", or all blank");
 }
 
-fn say_text_rule(body: &[u8], start: usize, length: usize) {
-    let text = fields::field(body, start, length);
-    let bad = first_bad(text);
+fn say_text_rule(body: &[u8], start: usize, length: usize, at: usize) {
+    let position = sum(start, first_bad(fields::field(body, start, length)));
     say(b"text, of bytes 32 to 126 and 160 to 255 only; the first other byte is ");
-    say_number(common::byte_at(text, sum(bad, 1)) as usize);
+    say_number(common::byte_at(body, position) as usize);
     say(b", at position ");
-    say_number(sum(start, bad));
+    say_number(position);
+    say(b" of the record, byte ");
+    say_number(sum(at, sum(position, 1)));
+    say(b" of the bundle");
 }
 
 // The first byte of a text, from 0, that no text may have.
-fn first_bad(text: &[u8]) -> usize {
+pub fn first_bad(text: &[u8]) -> usize {
     let mut i = 0;
     while i < text.len() {
         if !rules::text(common::part(text, i, 1)) {

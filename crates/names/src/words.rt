@@ -42,6 +42,28 @@ pub fn say_quoted(s: &[u8]) {
     say(b"\"");
 }
 
+// The most bytes of a value that are shown.
+const SHOWN: usize = 60;
+
+// A value as it was delivered; of a long one the start, and how long it is.
+pub fn say_delivered(s: &[u8]) {
+    say_quoted(common::part(s, 0, SHOWN));
+    if SHOWN < s.len() {
+        say(b"... (");
+        say_length(s.len());
+        say(b")");
+    }
+}
+
+pub fn say_length(n: usize) {
+    say_number(n);
+    if n == 1 {
+        say(b" byte");
+    } else {
+        say(b" bytes");
+    }
+}
+
 fn say_byte(one: &[u8]) {
     let b = common::byte_at(one, 1);
     if is_plain(b) {

@@ -1,0 +1,78 @@
+"""Runs the commands judge and explain, and counts what they told beside what was due."""
+import os
+import pathlib
+import shutil
+import subprocess
+
+ROOT = pathlib.Path(__file__).resolve().parent.parent
+PATIENCE = 60
+NOBODY = ["setpriv", "--reuid=65534", "--regid=65534", "--clear-groups"]
+
+
+class Told:
+    """What a command wrote and said, and its status."""
+
+    def __init__(self, wrote, said, status):
+        self.wrote, self.said, self.status = wrote, said, status
+
+    def __eq__(self, other):
+        return (self.wrote, self.said, self.status) == (other.wrote, other.said, other.status)
+
+    def __repr__(self):
+        return f"status {self.status}, wrote {self.wrote!r}, said {self.said!r}"
+
+
+def start(words, stdin=subprocess.DEVNULL, stdout=subprocess.PIPE, **more):
+    return subprocess.Popen([str(word) for word in words], stdin=stdin, stdout=stdout, stderr=subprocess.PIPE, **more)
+
+
+def end(process, data=None):
+    try:
+        wrote, said = process.communicate(data, timeout=PATIENCE)
+    except subprocess.TimeoutExpired:
+        process.kill()
+        process.communicate()
+        return Told("", f"(no end in {PATIENCE} s)", None)
+    return Told((wrote or b"").decode(), said.decode(), process.returncode)
+
+
+def run(words, data=None, **more):
+    if data is not None:
+        more["stdin"] = subprocess.PIPE
+    return end(start(words, **more), data)
+
+
+def as_other_user(words):
+    """The words that run a command as a user who may not write here, or None where that cannot be had."""
+    if os.getuid() != 0:
+        return None
+    if not shutil.which("setpriv"):
+        return None
+    return NOBODY + [str(word) for word in words]
+
+
+def reaches(path):
+    """Whether nobody can read a file."""
+    words = as_other_user(["test", "-r", path])
+    return words is not None and run(words).status == 0
+
+
+class Tally:
+    def __init__(self):
+        self.passed = 0
+        self.failed = 0
+        self.skipped = 0
+
+    def hold(self, name, told, due):
+        self.holds(name, told == due, f"{told}; due: {due}")
+
+    def holds(self, name, is_so, told):
+        if is_so:
+            self.passed += 1
+            return
+        self.failed += 1
+        print(f"FAILED {name}: {told}")
+
+    def skip(self, name, why):
+        self.skipped += 1
+        print(f"skipped {name}: {why}")
