@@ -2,10 +2,11 @@
 import os
 import pathlib
 import shutil
+import signal
 import subprocess
 
 ROOT = pathlib.Path(__file__).resolve().parent.parent
-PATIENCE = 60
+PATIENCE = 20
 NOBODY = ["setpriv", "--reuid=65534", "--regid=65534", "--clear-groups"]
 
 
@@ -23,14 +24,14 @@ class Told:
 
 
 def start(words, stdin=subprocess.DEVNULL, stdout=subprocess.PIPE, **more):
-    return subprocess.Popen([str(word) for word in words], stdin=stdin, stdout=stdout, stderr=subprocess.PIPE, **more)
+    return subprocess.Popen([str(word) for word in words], stdin=stdin, stdout=stdout, stderr=subprocess.PIPE, start_new_session=True, **more)
 
 
 def end(process, data=None):
     try:
         wrote, said = process.communicate(data, timeout=PATIENCE)
     except subprocess.TimeoutExpired:
-        process.kill()
+        os.killpg(process.pid, signal.SIGKILL)
         process.communicate()
         return Told("", f"(no end in {PATIENCE} s)", None)
     return Told((wrote or b"").decode(), said.decode(), process.returncode)
