@@ -3,6 +3,8 @@
 The names are short forms of those in source document 001, Appendices C, H, I and O; the rules are the scope document's. Both are
 written by hand and share nothing with crates/. Positions are counted from the lengths in records.py.
 """
+import re as patterns
+
 from cases import SAMPLE, SAMPLE_RECORDS
 from records import GOOD, ar, co, re
 
@@ -11,7 +13,10 @@ END = "Only this first fault is told. Once it is mended there may be another."
 TABLES = {"CO": "conditions", "RE": "types of discount", "AR": "additional discounts", "ME": "memo"}
 
 FLAG = "Y or N, in capitals"
-TEXT = "text, of bytes 32 to 126 and 160 to 255 only; the first other byte is {byte}, at position {at}"
+TEXT = (
+    "text, of bytes 32 to 126 and 160 to 255 only; the first other byte is {byte}, at position {at} of the record, "
+    "byte {place} of the bundle"
+)
 DAY = "a real day, written YYYYMMDD, of the years 1583 to 9999"
 LAST_DAY = DAY + ', and not before the first day in field {before}, which is "{earlier}"'
 FACTOR = 'digits only, {least} to 999, under the rounding in field {before}, which is "{earlier}"; 000 is for rounding N only'
@@ -100,6 +105,11 @@ def shown(data):
     return "".join(chr(byte) if 32 <= byte <= 126 and byte not in b'"\\' else f"\\x{byte:02X}" for byte in data)
 
 
+def delivered(data):
+    """A value of which no more than 60 bytes are shown."""
+    return f'"{shown(data[:60])}"' + (f"... ({len(data)} bytes)" if len(data) > 60 else "")
+
+
 def parts_of(table, record):
     """Each field of a record by its number: its first position and its bytes."""
     parts = {}
@@ -129,28 +139,69 @@ def span(name, first, length):
     return f"{name}s {first} to {first + length - 1}" if length > 1 else f"{name} {first}"
 
 
-def rule_words(rule, before, table, record, start, data):
+def is_text(byte):
+    return 32 <= byte <= 126 or 160 <= byte
+
+
+def rule_words(rule, before, table, record, at, start, data):
     parts = parts_of(table, record)
     earlier = shown(parts[before][1]) if before else ""
-    bad = next((i for i, byte in enumerate(data) if not (32 <= byte <= 126 or 160 <= byte)), 0)
+    bad = next((i for i, byte in enumerate(data) if not is_text(byte)), 0)
     least = "000" if earlier == "N" else "001"
-    return rule.format(byte=data[bad], at=start + bad, before=before, earlier=earlier, least=least)
+    return rule.format(byte=data[bad], at=start + bad, place=at + 1 + start + bad, before=before, earlier=earlier, least=least)
 
 
-def field_lines(number, at, table, record, field):
-    """All lines due where a field of a record is broken that stands at a byte of the bundle."""
+def character_line(byte):
+    """What a byte is that no text may have."""
+    line = f"A bundle is ISO 8859-1, which has one byte for each character. Byte {byte} "
+    if byte == 9:
+        return line + "is a tab, which no text may have."
+    if byte in (10, 13):
+        return line + "is a line end, which no text may have."
+    if byte < 128:
+        return line + "is no character."
+    return (
+        line + "is none of them: UTF-8 has such bytes within characters of several bytes, Windows-1252 has dashes, curved quotes and "
+        "the like there."
+    )
+
+
+def letter_lines(at, upto):
+    """What is told of the first letter of two bytes, in the bytes of a record up to the end of its broken field."""
+    letter = patterns.search(rb"[\xC2\xC3][\x80-\xBF]", upto)
+    if not letter:
+        return []
+    return [
+        f'The bytes "{shown(letter.group())}" at byte {at + letter.start()} look like UTF-8, where a letter with an accent takes two bytes '
+        "and shifts what follows. Save the file as ISO 8859-1."
+    ]
+
+
+def near_line(table, distance, place):
+    """Where a mark stands that was due elsewhere: so many bytes further on, or earlier if the distance is negative."""
+    length = f"{abs(distance)} byte" + ("" if abs(distance) == 1 else "s")
+    where, fault = ("further on", "long") if distance > 0 else ("earlier", "short")
+    return f"A mark, {table}, stands {length} {where}, at byte {place}: what is before it is too {fault} by as much."
+
+
+def field_lines(number, at, table, record, field, shift=()):
+    """All lines due where a field of a record is broken that stands at a byte of the bundle; `shift` is what tells that it is shifted."""
     name, rule, before = FIELDS[table][field]
     start, data = parts_of(table, record)[field]
+    odd = [character_line(next(byte for byte in data if not is_text(byte)))] if rule is TEXT else []
     return (
         [f"NO 4 {number} {field}", "A field breaks its rule."]
         + place_lines(number, at, table, key(table, record))
         + [
             f"Field {field}, {name}: {span('position', start, len(data))} of the record, counted from 1 behind the mark; "
             f"{span('byte', at + 1 + start, len(data))} of the bundle.",
-            f'Delivered: "{shown(data)}".',
-            f"It must be {rule_words(rule, before, table, record, start, data)}.",
-            END,
+            f"Delivered: {delivered(data)}.",
+            f"It must be {rule_words(rule, before, table, record, at, start, data)}.",
         ]
+        + odd
+        + letter_lines(at, record[: 1 + start + len(data)])
+        + list(shift)
+        + [END]
     )
 
 
@@ -215,6 +266,7 @@ Record 7, counted from 0, is of table AR (additional discounts): offer 00042, ra
 It starts with its mark at byte 1457 of the bundle, counted from 0.
 Record 6, at byte 1406 of the bundle, has the same key: offer 00042, railway 1185, code 007.
 A key may stand only once in its table; the days are no part of it.
+Keep one of the two. Records for different seasons under one key cannot stand together.
 Only this first fault is told. Once it is mended there may be another.
 """,
     ),
@@ -226,6 +278,7 @@ The record needs another record that is not in the bundle.
 Record 4, counted from 0, is of table CO (conditions): offer 00042, railway 1181.
 It starts with its mark at byte 1198 of the bundle, counted from 0.
 Flag 33, additional discount, is Y, so an AR record of offer 00042 for railway 1181 or 0000 is needed; there is none.
+Add that record, or set the flag to N.
 Only this first fault is told. Once it is mended there may be another.
 """,
     ),
@@ -236,7 +289,8 @@ NO 3 9 0
 The bundle ends inside a record.
 Record 9, counted from 0, is of table CO (conditions): offer 00043, railway 1185.
 It starts with its mark at byte 2741 of the bundle, counted from 0.
-Behind the mark it needs 155 bytes; the bundle has 135 left.
+Behind the mark it needs 155 bytes; the bundle has 135 left, which is 20 too few.
+The usual causes: the delivery was cut off, or this record lost bytes. Send it again.
 Only this first fault is told. Once it is mended there may be another.
 """,
     ),

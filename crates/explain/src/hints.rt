@@ -123,7 +123,11 @@ fn seems_start(bundle: &[u8], at: usize) -> bool {
     if layout::TABLES <= table_at(bundle, at) {
         return false;
     }
-    layout::company::is_transferor(common::part(bundle, sum(at, 2), 4))
+    let behind = common::part(bundle, sum(at, 2), 4);
+    if behind.len() < 4 {
+        return false;
+    }
+    layout::company::is_transferor(behind)
 }
 
 // Whether the record has bytes too many or too few shows by where the next one starts.
