@@ -10,7 +10,7 @@ import signal
 import subprocess
 import time
 
-from trial import ROOT, Told, as_other_user, end, reaches, run, start
+from trial import PATIENCE, ROOT, Told, as_other_user, end, reaches, run, start
 
 # It notes each build, and that two builds went on at once. The files beside it say what else it does.
 RT = """\
@@ -138,12 +138,19 @@ def change_during_build(checkout, tally):
 
 
 def four_at_once(checkout, tally):
-    checkout.during_builds("sleep 1")
-    told = [end(process) for process in [checkout.start() for _ in range(4)]]
+    """The first builds until the others have all said that they wait."""
+    checkout.during_builds('until [ -f "$kit/go" ]; do sleep 0.05; done')
+    heard = [checkout.kit / f"heard-{i}" for i in range(4)]
+    runs = [checkout.start(stderr=open(path, "wb")) for path in heard]
     waiting = "judge: waiting for another build in this checkout\n"
-    dues = [Told("OK 4\n", first_build(), 0)] + 3 * [Told("OK 4\n", waiting, 0)]
-    told.sort(key=lambda one: len(one.said), reverse=True)
-    tally.holds("four at once", told == dues, told)
+    patience = time.time() + PATIENCE / 2
+    while sum(path.read_text() == waiting for path in heard) < 3 and time.time() < patience:
+        time.sleep(0.05)
+    (checkout.kit / "go").touch()
+    told = [end(process) for process in runs]
+    tally.holds("four at once", [(one.wrote, one.status) for one in told] == 4 * [("OK 4\n", 0)], told)
+    said = sorted(path.read_text() for path in heard)
+    tally.holds("three of four wait", said == [first_build()] + 3 * [waiting], said)
     tally.holds("four at once build once", checkout.builds() == ["verdict"], checkout.builds())
 
 

@@ -6,7 +6,7 @@ import signal
 import subprocess
 
 ROOT = pathlib.Path(__file__).resolve().parent.parent
-PATIENCE = 20
+PATIENCE = 60
 NOBODY = ["setpriv", "--reuid=65534", "--regid=65534", "--clear-groups"]
 
 
@@ -23,8 +23,10 @@ class Told:
         return f"status {self.status}, wrote {self.wrote!r}, said {self.said!r}"
 
 
-def start(words, stdin=subprocess.DEVNULL, stdout=subprocess.PIPE, **more):
-    return subprocess.Popen([str(word) for word in words], stdin=stdin, stdout=stdout, stderr=subprocess.PIPE, start_new_session=True, **more)
+def start(words, stdin=subprocess.DEVNULL, stdout=subprocess.PIPE, stderr=subprocess.PIPE, **more):
+    """Starts a command in a group of its own, which can be ended as a whole."""
+    words = [str(word) for word in words]
+    return subprocess.Popen(words, stdin=stdin, stdout=stdout, stderr=stderr, start_new_session=True, **more)
 
 
 def end(process, data=None):
@@ -34,7 +36,7 @@ def end(process, data=None):
         os.killpg(process.pid, signal.SIGKILL)
         process.communicate()
         return Told("", f"(no end in {PATIENCE} s)", None)
-    return Told((wrote or b"").decode(), said.decode(), process.returncode)
+    return Told((wrote or b"").decode(), (said or b"").decode(), process.returncode)
 
 
 def run(words, data=None, **more):
