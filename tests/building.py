@@ -48,7 +48,7 @@ def first_build(command="judge", program="verdict"):
 
 
 def later_build(command="judge", program="verdict"):
-    return f"{command}: sources are newer than {program}: proving and building what changed\n" + progress(command, program)
+    return f"{command}: proving and building what changed since {program} was built\n" + progress(command, program)
 
 
 class Checkout:
@@ -179,7 +179,8 @@ def failing_build(checkout, tally):
 
 def cut_off_build(checkout, tally):
     """A program that is there in part, with no stamp, is built anew."""
-    checkout.during_builds("mkdir -p target/bin; printf '#!/bin/sh\\n' >target/bin/$2; chmod +x target/bin/$2; rmdir \"$kit/busy\"; kill -9 $$")
+    half = "mkdir -p target/bin; printf '#!/bin/sh\\n' >target/bin/$2; chmod +x target/bin/$2"
+    checkout.during_builds(half + '; rmdir "$kit/busy"; kill -9 $$')
     told = checkout.run()
     tally.holds("build killed", (told.wrote, told.status) == ("", 2) and told.said.count("judge: verdict was not built") == 1, told)
     checkout.as_usual()
@@ -188,7 +189,7 @@ def cut_off_build(checkout, tally):
 
 
 def interrupted_build(checkout, tally):
-    checkout.during_builds("touch \"$kit/begun\"; sleep 5")
+    checkout.during_builds(': >"$kit/begun"; sleep 5')
     process = checkout.start()
     while not (checkout.kit / "begun").exists() and process.poll() is None:
         time.sleep(0.02)
@@ -197,7 +198,9 @@ def interrupted_build(checkout, tally):
     line = "judge: interrupted; the next run builds on from here\n"
     tally.holds("build interrupted", (told.wrote, told.status) == ("", 2) and told.said.endswith(line), told)
     checkout.as_usual()
-    tally.hold("build after an interruption", checkout.run(), Told("OK 4\n", first_build(), 0))
+    told = checkout.run()
+    is_so = (told.wrote, told.status) == ("OK 4\n", 0) and told.said.endswith(progress("judge", "verdict"))
+    tally.holds("build after an interruption", is_so, told)
 
 
 def without_rt(checkout, tally):
