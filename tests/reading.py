@@ -88,7 +88,7 @@ class Reading:
         self.forbidden()
 
     def forbidden(self):
-        path = self.folder / "forbidden.bundle"
+        path = self.folder / f"forbidden-{self.command}"
         path.write_bytes(GOOD.read_bytes())
         path.chmod(0)
         words = [self.program, path]
