@@ -282,6 +282,23 @@ Add that record, or set the flag to N.
 Only this first fault is told. Once it is mended there may be another.
 """,
     ),
+    # the memo's three letters with two dots are two bytes each
+    "saved-as-utf-8": (
+        SAMPLE.decode("latin-1").encode("utf-8"),
+        """\
+NO 4 8 9
+A field breaks its rule.
+Record 8, counted from 0, is of table ME (memo): offer 00042, railway 0000.
+It starts with its mark at byte 1508 of the bundle, counted from 0.
+Field 9, first day of validity: positions 1214 to 1221 of the record, counted from 1 behind the mark; bytes 2723 to 2730 of the bundle.
+Delivered: "   20240".
+It must be a real day, written YYYYMMDD, of the years 1583 to 9999.
+The bytes "\\xC3\\xBC" at byte 1551 look like UTF-8, where a letter with an accent takes two bytes and shifts what follows. Save the \
+file as ISO 8859-1.
+The next record should start at byte 2741. A mark, CO, stands 3 bytes further on, at byte 2744: what is before it is too long by as much.
+Only this first fault is told. Once it is mended there may be another.
+""",
+    ),
     "cut-short": (
         SAMPLE[:-20],
         """\
