@@ -10,7 +10,7 @@ import signal
 import subprocess
 import time
 
-from trial import PATIENCE, ROOT, Told, as_other_user, end, reaches, run, start
+from trial import PATIENCE, ROOT, Told, as_other_user, end, other_user_reads, run, start
 
 # It notes each build, and that two builds went on at once. The files beside it say what else it does.
 RT = """\
@@ -219,7 +219,7 @@ def locked_up(checkout, tally):
     """A checkout in which nothing may be written, for the user or for another one."""
     words = checkout.words()
     if os.getuid() == 0:
-        words = as_other_user(words) if reaches(checkout.root / "judge") else None
+        words = as_other_user(words) if other_user_reads(checkout.root / "judge") else None
     if words is None:
         tally.skip("a checkout that may not be written", "there is no other user to try it as")
         return

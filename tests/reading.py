@@ -1,10 +1,10 @@
 """What judge and explain do with the words and the input that they are given."""
 import os
 import pty
-import subprocess
+import shutil
 import threading
 
-from trial import ROOT, Told, as_other_user, end, reaches, run, start
+from trial import ROOT, Told, as_other_user, end, other_user_reads, run, start
 
 GOOD = ROOT / "examples" / "sample.bundle"
 BAD = ROOT / "examples" / "broken-field.bundle"
@@ -24,6 +24,10 @@ def named(command, name, answer):
 
 def unread(command, name, why):
     return f"{command}: cannot read {name}: {why}\n"
+
+
+def other_user_runs():
+    return other_user_reads(ROOT / "judge", ROOT / "target" / "bin" / "verdict", shutil.which("rt"))
 
 
 class Reading:
@@ -93,7 +97,7 @@ class Reading:
         path.chmod(0)
         words = [self.program, path]
         if os.getuid() == 0:
-            words = as_other_user(words) if reaches(self.program) else None
+            words = as_other_user(words) if other_user_runs() else None
         if words is None:
             self.tally.skip("a file that may not be read", "there is no other user to try it as")
             return
@@ -191,7 +195,7 @@ def side_by_side(tally):
 
 def other_user(tally):
     """Whoever may read the checkout may run what is built there."""
-    if not reaches(ROOT / "judge"):
+    if not other_user_runs():
         tally.skip("another user", "there is none here, or it cannot reach this folder")
         return
     tally.hold("another user", run(as_other_user([ROOT / "judge", GOOD])), Told(due("judge", GOOD), "", 0))

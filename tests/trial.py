@@ -54,10 +54,9 @@ def as_other_user(words):
     return NOBODY + [str(word) for word in words]
 
 
-def reaches(path):
-    """Whether nobody can read a file."""
-    words = as_other_user(["test", "-r", path])
-    return words is not None and run(words).status == 0
+def other_user_reads(*paths):
+    tries = [as_other_user(["test", "-r", path]) for path in paths]
+    return None not in tries and all(run(words).status == 0 for words in tries)
 
 
 class Tally:
