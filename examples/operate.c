@@ -68,13 +68,15 @@ static void sell(offers_question question) {
 }
 
 static void cancel(uint64_t sequence) {
-    told("till", &handset, sequence, till_cancel(&handset, sequence));
-    line("the book is saved: the passenger is told");
+    series_answer answer = till_cancel(&handset, sequence);
+    told("till", &handset, sequence, answer);
+    line(is_answered(answer) ? "the book is saved: the passenger is told" : "nothing is cancelled");
 }
 
 static series_answer arrives(const message *message) {
+    const char *who = message->is_sale ? "sale sent up, office" : "cancellation sent up, office";
     series_answer answer = office_take(&main_office, message);
-    told(message->is_sale ? "sale sent up, office" : "cancellation sent up, office", &handset, message->sequence, answer);
+    told(who, &handset, message->sequence, answer);
     return answer;
 }
 
@@ -203,7 +205,9 @@ static void cancellation_first(void) {
 
 static void restart(uint64_t sequence) {
     series_found found = series_find(till_folder, TILL, sequence);
-    if (found.sale.number == OFFERS_ANSWERED)
+    if (found.stored != STORE_DONE)
+        line("restart: %s", store_text(found.stored));
+    else if (found.sale.number == OFFERS_ANSWERED)
         line("restart: 7/%" PRIu64 " is found in book-%04u: the ticket is printed now, parts %" PRIu32 " and %" PRIu32,
              sequence, found.book, found.sale.parts[0], found.sale.parts[1]);
     else
@@ -346,6 +350,7 @@ static void damaged_book(void) {
     title("A stored book is damaged: nothing is sold, nothing is settled");
     uint8_t good[STORE_BYTES];
     files_copy_book(till_folder, backup, 1);
+    files_copy_book(till_folder, backup, 2);
     files_read(files_book(backup, 1), good, sizeof good);
     show_damaged("cut off at 40,000 bytes", good, 40000);
     show_changed("one bit is another", 30000, good[30000] ^ 1, good);
@@ -361,16 +366,28 @@ static void damaged_book(void) {
     both_owe();
 }
 
-/* Never do this: its numbers are free again. */
-static void empty_book_in_its_place(void) {
-    title("What an empty book in its place would do (on a copy of the office's books)");
+/* The backup was taken before the last sale. */
+static void older_copy(void) {
+    const till older = {backup, TILL, &summer};
+    uint64_t sequence = 0;
+    if (till_next(&older, &sequence) != STORE_DONE) files_stop("backup");
+    line("by the backup the till's next number is 7/%" PRIu64 ", and that is sold", sequence);
+}
+
+static void empty_book(void) {
     static const uint32_t empty[OFFERS_BOOK_WORDS];
     const char *const copy[] = {spare};
     files_copy_book(office_books, spare, 2);
     store_save(files_book(spare, 1), empty);
+    line("with an empty book in place of the office's first, 7/5 comes again");
     told("copy", &handset, 5, series_sell(spare, summer.bytes, summer.length, TILL, 5, ticket(20240619, 2)));
-    line("a sale that is in the lost book is booked again");
     settled("settlement of the copy, wrong and without a sign of it", copy, 1);
+}
+
+static void wrong_ways_to_mend(void) {
+    title("Two wrong ways to mend a series (on copies)");
+    older_copy();
+    empty_book();
 }
 
 static void settle_all(void) {
@@ -408,7 +425,7 @@ static void play(void) {
     earlier_book();
     without_asking();
     damaged_book();
-    empty_book_in_its_place();
+    wrong_ways_to_mend();
     settle_all();
 }
 

@@ -27,7 +27,8 @@ typedef struct {
     offers_booking sale; /* its `number` is 0 if a book has the sale, and 25 if none has */
 } series_found;
 
-/* Takes the lock: what to unlock, or -1 where another process has it, unless this waits until it has not. */
+/* Takes the lock of the series: what to unlock, or -1 if it cannot be had. If another process has it, this waits or
+ * does not. Threads of one process need a lock of their own besides. */
 int series_lock(const char *folder, int waits);
 void series_unlock(int lock);
 
