@@ -339,15 +339,19 @@ static void show_unsound(void) {
     show_damaged("257 sales in it, with a checksum to match", bytes, sizeof bytes);
 }
 
-static void put_back(void) {
+/* Each book is loaded, which checks it, and saved in place of the other. */
+static void take_over(const char *from, const char *to) {
     uint32_t book[OFFERS_BOOK_WORDS];
-    line("the backup is loaded, which checks it, and saved in place of the book");
-    if (store_load(files_book(backup, 1), book) != STORE_DONE) files_stop("backup");
-    if (store_save(files_book(till_folder, 1), book) != STORE_DONE) files_stop("book");
+    int lock = series_lock(to, 1), count = series_count(from);
+    for (int i = 1; i <= count; i++) {
+        if (series_load(from, (unsigned)i, book) != STORE_DONE) files_stop(from);
+        if (store_save(files_book(to, (unsigned)i), book) != STORE_DONE) files_stop(to);
+    }
+    series_unlock(lock);
 }
 
 static void damaged_book(void) {
-    title("A stored book is damaged: nothing is sold, nothing is settled");
+    title("A book of the till is damaged: nothing is sold, nothing is settled");
     uint8_t good[STORE_BYTES];
     files_copy_book(till_folder, backup, 1);
     files_copy_book(till_folder, backup, 2);
@@ -360,9 +364,19 @@ static void damaged_book(void) {
     files_remove(files_book(till_folder, 1));
     line("it is gone, and book-0002 is there");
     told("till", &handset, 258, till_sell(&handset, 258, ticket(20240623, 2)));
-    put_back();
+    line("the office has answered all that the till sold: the till takes over the office's books");
+    take_over(office_books, till_folder);
     sell(ticket(20240623, 2));
-    send_all();
+    both_owe();
+}
+
+static void damaged_at_office(void) {
+    title("A book of the office is damaged: nothing is answered");
+    files_write(files_book(office_books, 2), (const uint8_t *)"OFFERSBK", 8);
+    send_unsent(258, 1, ANSWERED);
+    line("whatever the office has booked of a till stands in the till's books: the office takes them over");
+    take_over(till_folder, office_books);
+    send_unsent(258, 1, ANSWERED);
     both_owe();
 }
 
@@ -425,6 +439,7 @@ static void play(void) {
     earlier_book();
     without_asking();
     damaged_book();
+    damaged_at_office();
     wrong_ways_to_mend();
     settle_all();
 }
