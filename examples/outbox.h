@@ -3,7 +3,7 @@
  *
  * A note is written before the book is saved, so that nothing is booked that is never sent. It counts only once the
  * books bear it out: if the till was cut off between the two, the note is there and the sale is not. It is struck out
- * when the office has answered. */
+ * when the office has answered, or when the sale is refused. */
 #ifndef OUTBOX_H
 #define OUTBOX_H
 

@@ -18,7 +18,11 @@ static series_answer sell_locked(const till *till, uint64_t sequence, offers_que
     int is_new = found.sale.number == OFFERS_SALE_UNKNOWN;
     if (is_new && outbox_note(till->folder, OUTBOX_SALE, sequence, bundle->name) != 0)
         return (series_answer){.stored = STORE_NOT_WRITTEN};
-    return series_sell(till->folder, bundle->bytes, bundle->length, till->number, sequence, question);
+    series_answer answer =
+        series_sell(till->folder, bundle->bytes, bundle->length, till->number, sequence, question);
+    int is_refused = answer.stored == STORE_DONE && answer.receipt.number != OFFERS_ANSWERED;
+    if (is_new && is_refused) outbox_strike_out(till->folder, OUTBOX_SALE, sequence);
+    return answer;
 }
 
 series_answer till_sell(const till *till, uint64_t sequence, offers_question question) {
