@@ -353,6 +353,8 @@ static void take_over(const char *from, const char *to) {
 static void damaged_book(void) {
     title("A book of the till is damaged: nothing is sold, nothing is settled");
     uint8_t good[STORE_BYTES];
+    line("before it, a cancellation that is not sent yet");
+    cancel(7);
     files_copy_book(till_folder, backup, 1);
     files_copy_book(till_folder, backup, 2);
     files_read(files_book(backup, 1), good, sizeof good);
@@ -364,8 +366,10 @@ static void damaged_book(void) {
     files_remove(files_book(till_folder, 1));
     line("it is gone, and book-0002 is there");
     told("till", &handset, 258, till_sell(&handset, 258, ticket(20240623, 2)));
-    line("the office has answered all that the till sold: the till takes over the office's books");
+    line("no sale is noted that the office has not: the till takes over the office's books");
     take_over(office_books, till_folder);
+    line("the cancellation of 7/7 is noted, and the office has not got it: 7/7 is cancelled again");
+    cancel(7);
     sell(ticket(20240623, 2));
     both_owe();
 }
@@ -377,6 +381,7 @@ static void damaged_at_office(void) {
     line("whatever the office has booked of a till stands in the till's books: the office takes them over");
     take_over(till_folder, office_books);
     send_unsent(258, 1, ANSWERED);
+    send_unsent(7, 0, ANSWERED);
     both_owe();
 }
 
