@@ -228,6 +228,17 @@ static void sell_but_for_the_save(uint64_t sequence, offers_question question) {
     files_write(beside, bytes, STORE_BYTES / 2);
 }
 
+/* The note is written, and the book is not saved: the note does not count. */
+static void cut_off_in_cancellation(void) {
+    message messages[MOST_UNSENT];
+    line("the power fails while 7/6 is cancelled");
+    outbox_note(till_folder, OUTBOX_CANCEL, 6, "");
+    int is_live = series_find(till_folder, TILL, 6).sale.status == OFFERS_LIVE;
+    line("restart: 7/6 is %s, the till has %d sales to send and nothing else", is_live ? "not cancelled" : "CANCELLED",
+         till_unsent(&handset, messages, MOST_UNSENT));
+    cancel(6);
+}
+
 static void cut_off(void) {
     title("The till is cut off");
     line("the power fails while 7/5 is saved");
@@ -237,6 +248,7 @@ static void cut_off(void) {
     told("till", &handset, 6, till_sell(&handset, 6, ticket(20240620, 2)));
     line("the power fails before the ticket of 7/6 is printed");
     restart(6);
+    cut_off_in_cancellation();
     both_owe();
 }
 
@@ -275,7 +287,7 @@ static void one_process(void) {
 static void full_book(void) {
     title("A full book and the next one");
     for (uint64_t sequence = next_number(); sequence <= OFFERS_MOST_ENTRIES; sequence++)
-        if (!is_answered(till_sell(&handset, sequence, ticket(20240621, 1 + sequence % 9)))) line("NOT SOLD");
+        if (!is_answered(till_sell(&handset, sequence, ticket(20240621, 1 + (uint32_t)(sequence % 9))))) line("NOT SOLD");
     uint32_t book[OFFERS_BOOK_WORDS];
     series_load(till_folder, 1, book);
     offers_receipt full = offers_sale(book, OFFERS_BOOK_WORDS, summer.bytes, summer.length, TILL, 257,
@@ -339,6 +351,19 @@ static void show_unsound(void) {
     show_damaged("257 sales in it, with a checksum to match", bytes, sizeof bytes);
 }
 
+/* Neither is taken for a new till. */
+static void show_missing(void) {
+    char gone[PATH_MAX];
+    join(gone, spare, "gone");
+    const till without_folder = {gone, TILL, &summer};
+    uint64_t sequence = 0;
+    files_remove(files_book(till_folder, 1));
+    line("it is gone, and book-0002 is there");
+    told("till", &handset, 258, till_sell(&handset, 258, ticket(20240623, 2)));
+    line("the whole folder is gone");
+    line("till: no next number: %s", store_text(till_next(&without_folder, &sequence)));
+}
+
 /* Each book is loaded, which checks it, and saved in place of the other. */
 static void take_over(const char *from, const char *to) {
     uint32_t book[OFFERS_BOOK_WORDS];
@@ -363,9 +388,7 @@ static void damaged_book(void) {
     show_changed("its first byte is another", 0, 'X', good);
     show_changed("its form is another", 8, 2, good);
     show_unsound();
-    files_remove(files_book(till_folder, 1));
-    line("it is gone, and book-0002 is there");
-    told("till", &handset, 258, till_sell(&handset, 258, ticket(20240623, 2)));
+    show_missing();
     line("no sale is noted that the office has not: the till takes over the office's books");
     take_over(office_books, till_folder);
     line("the cancellation of 7/7 is noted, and the office has not got it: 7/7 is cancelled again");
