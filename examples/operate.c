@@ -203,16 +203,19 @@ static void cancellation_first(void) {
     both_owe();
 }
 
+/* Looks for the number that was under way. If a book has it, it is asked once more, so that the book is saved again. */
 static void restart(uint64_t sequence) {
     series_found found = series_find(till_folder, TILL, sequence);
-    if (found.stored != STORE_DONE)
+    if (found.stored != STORE_DONE) {
         line("restart: %s", store_text(found.stored));
-    else if (found.sale.number == OFFERS_ANSWERED)
-        line("restart: 7/%" PRIu64 " is found in book-%04u: the ticket is printed now, parts %" PRIu32 " and %" PRIu32,
-             sequence, found.book, found.sale.parts[0], found.sale.parts[1]);
-    else
+    } else if (found.sale.number == OFFERS_ANSWERED) {
+        line("restart: 7/%" PRIu64 " is found in book-%04u", sequence, found.book);
+        told("till", &handset, sequence, till_sell(&handset, sequence, found.sale.question));
+        line("the book is saved again: the ticket is printed now");
+    } else {
         line("restart: 7/%" PRIu64 " is not found, number %" PRIu64 ": it is sold again under its number", sequence,
              found.sale.number);
+    }
 }
 
 /* All but the save: the note is written, the book is changed in memory, and half of the new file is there. */
@@ -286,8 +289,10 @@ static void one_process(void) {
 
 static void full_book(void) {
     title("A full book and the next one");
-    for (uint64_t sequence = next_number(); sequence <= OFFERS_MOST_ENTRIES; sequence++)
-        if (!is_answered(till_sell(&handset, sequence, ticket(20240621, 1 + (uint32_t)(sequence % 9))))) line("NOT SOLD");
+    for (uint64_t sequence = next_number(); sequence <= OFFERS_MOST_ENTRIES; sequence++) {
+        offers_question question = ticket(20240621, 1 + (uint32_t)(sequence % 9));
+        if (!is_answered(till_sell(&handset, sequence, question))) line("NOT SOLD");
+    }
     uint32_t book[OFFERS_BOOK_WORDS];
     series_load(till_folder, 1, book);
     offers_receipt full = offers_sale(book, OFFERS_BOOK_WORDS, summer.bytes, summer.length, TILL, 257,

@@ -107,9 +107,10 @@ static series_answer load_for(const char *folder, uint32_t till, uint64_t sequen
     return (series_answer){.stored = series_load(folder, found.book, words), .book = found.book};
 }
 
-static series_answer save_change(const char *folder, const uint32_t *words, series_answer answer) {
-    uint32_t outcome = answer.receipt.outcome;
-    if (outcome != OFFERS_BOOKED && outcome != OFFERS_CANCELLED) return answer;
+/* What was booked or cancelled before is saved again too: the save before this one may have failed, or been cut off,
+ * with the new book in place and not flushed. */
+static series_answer save_answered(const char *folder, const uint32_t *words, series_answer answer) {
+    if (answer.receipt.number != OFFERS_ANSWERED) return answer;
     char path[PATH_MAX];
     int stored = path_of(folder, answer.book, path) ? store_save(path, words) : STORE_NOT_WRITTEN;
     if (stored != STORE_DONE) return (series_answer){.stored = stored, .book = answer.book};
@@ -127,7 +128,7 @@ series_answer series_sell(const char *folder, const uint8_t *bundle, size_t leng
         answer.book++;
         answer.receipt = offers_sale(words, OFFERS_BOOK_WORDS, bundle, length, till, sequence, question);
     }
-    return save_change(folder, words, answer);
+    return save_answered(folder, words, answer);
 }
 
 series_answer series_cancel(const char *folder, uint32_t till, uint64_t sequence) {
@@ -135,5 +136,5 @@ series_answer series_cancel(const char *folder, uint32_t till, uint64_t sequence
     series_answer answer = load_for(folder, till, sequence, words);
     if (answer.stored != STORE_DONE) return answer;
     answer.receipt = offers_cancel(words, OFFERS_BOOK_WORDS, till, sequence);
-    return save_change(folder, words, answer);
+    return save_answered(folder, words, answer);
 }

@@ -5,8 +5,8 @@
  * their number: if one has it, that book answers, and nothing is booked in another. A new number goes into the last
  * book, or where that is full (24) into the next one, which is stored with its first sale.
  *
- * A change is saved before the answer is given. If a book does not load, nothing is sold or cancelled. The folder has
- * to be there. Whoever sells or cancels holds the lock of the series. */
+ * The book is saved before the answer is given, unless that is a refusal. If a book does not load, nothing is sold or
+ * cancelled. The folder has to be there. Whoever sells or cancels holds the lock of the series. */
 #ifndef SERIES_H
 #define SERIES_H
 
