@@ -176,8 +176,9 @@ static void refused_sales(void) {
     sell(ticket(20240617, 1));
     line("another question under a number that is taken");
     told("till", &handset, 2, till_sell(&handset, 2, ticket(20240616, 4)));
-    line("sequence 0");
+    line("sequence 0, and a cancellation of a sale that is not there");
     told("till", &handset, 0, till_sell(&handset, 0, ticket(20240616, 4)));
+    told("till", &handset, 300, till_cancel(&handset, 300));
     both_owe();
 }
 

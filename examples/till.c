@@ -34,7 +34,10 @@ series_answer till_sell(const till *till, uint64_t sequence, offers_question que
 }
 
 static series_answer cancel_locked(const till *till, uint64_t sequence) {
-    if (outbox_note(till->folder, OUTBOX_CANCEL, sequence, "") != 0)
+    series_found found = series_find(till->folder, till->number, sequence);
+    if (found.stored != STORE_DONE) return (series_answer){.stored = found.stored, .book = found.book};
+    int is_known = found.sale.number == OFFERS_ANSWERED;
+    if (is_known && outbox_note(till->folder, OUTBOX_CANCEL, sequence, "") != 0)
         return (series_answer){.stored = STORE_NOT_WRITTEN};
     return series_cancel(till->folder, till->number, sequence);
 }
