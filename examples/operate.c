@@ -123,8 +123,8 @@ static void take_bundle(const char *name) {
     if (!bundles_read(main_office.bundles, name, &delivered)) files_stop(name);
     offers_judgement judgement = offers_verdict(delivered.bytes, delivered.length);
     if (judgement.number != OFFERS_ANSWERED) {
-        line("%s is refused: number %" PRIu64 "; the till sells by %s as before", name, judgement.number,
-             handset.bundle->name);
+        line("%s is refused by %" PRIu64 ": %s", name, judgement.number, offers_text(judgement.number));
+        line("the till sells by %s as before", handset.bundle->name);
         return;
     }
     summer = delivered;
@@ -214,8 +214,7 @@ static void restart(uint64_t sequence) {
         told("till", &handset, sequence, till_sell(&handset, sequence, found.sale.question));
         line("the book is saved again: the ticket is printed now");
     } else {
-        line("restart: 7/%" PRIu64 " is not found, number %" PRIu64 ": it is sold again under its number", sequence,
-             found.sale.number);
+        line("restart: 7/%" PRIu64 " is not found: it is sold again under its number", sequence);
     }
 }
 
@@ -298,8 +297,7 @@ static void full_book(void) {
     series_load(till_folder, 1, book);
     offers_receipt full = offers_sale(book, OFFERS_BOOK_WORDS, summer.bytes, summer.length, TILL, 257,
                                       ticket(20240622, 1));
-    line("book-0001 has %" PRIu64 " sales; to a new number it says %" PRIu64,
-         offers_count(book, OFFERS_BOOK_WORDS).entries, full.number);
+    told("book-0001", &handset, 257, (series_answer){.book = 1, .receipt = full});
     sell(ticket(20240622, 1));
     send_all();
     both_owe();

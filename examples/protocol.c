@@ -21,8 +21,8 @@ void title(const char *text) {
 
 static void told_receipt(const char *start, unsigned book, const offers_receipt *receipt) {
     if (receipt->number != OFFERS_ANSWERED) {
-        line("%s refused: number %" PRIu64 ", place %" PRIu64 ", detail %" PRIu64, start, receipt->number,
-             receipt->place, receipt->detail);
+        line("%s refused by %" PRIu64 ", place %" PRIu64 ", detail %" PRIu64 ": %s", start, receipt->number,
+             receipt->place, receipt->detail, offers_text(receipt->number));
         return;
     }
     int is_late = receipt->outcome == OFFERS_ALREADY_BOOKED && receipt->cancelled;
