@@ -12,23 +12,30 @@
 
 #include "offers.h"
 
-enum call { VERDICT = 1, FARE, SALE, CANCEL, BALANCE, TOTAL };
+enum call { VERDICT = 1, FARE, SALE, CANCEL, BALANCE, TOTAL, COUNT, ENTRY, FIND };
 enum end { BEHIND, BEFORE, ENDS };
 enum finding { FINE, ANSWERS_DIFFER, BOOKS_DIFFER, WRITTEN_BESIDE };
 enum { PAGE = 4096, CANARY = 0xA5 };
 
 /* After it come bundle_sent bytes and, unless the book is kept from the last reply, book_sent words; `more` counts zeros after them. */
 struct request {
-    uint64_t sequence, bundle_sent, bundle_more, book_sent, book_more;
+    uint64_t sequence, entry, bundle_sent, bundle_more, book_sent, book_more;
     uint32_t call, till, railway, book_kept;
     offers_question question;
 };
-_Static_assert(sizeof(struct request) == 5 * 8 + (4 + 24) * 4, "a request has no padding");
+_Static_assert(sizeof(struct request) == 6 * 8 + (4 + 24) * 4, "a request has no padding");
+_Static_assert(sizeof(size_t) == 8, "an entry is asked for as it is sent");
 
+/* Every value of every answer: what a call does not tell is 0. */
 struct answer {
-    uint64_t number, place, detail, value;
-    uint32_t outcome, cancelled, parts[8];
+    uint64_t number, place, detail, value, entry, sequence;
+    uint32_t outcome, cancelled, till, status;
+    offers_question question;
+    uint32_t parts[8];
 };
+_Static_assert(sizeof(struct answer) == 6 * 8 + (4 + 24 + 8) * 4, "an answer has no padding");
+_Static_assert(sizeof(offers_tally) == 4 * 8, "a tally has no value but those told");
+_Static_assert(sizeof(offers_booking) == 5 * 8 + (2 + 24 + 8) * 4, "a booking has no value but those told");
 
 /* After it come `changes` pairs of a word's place in the book and its new value. */
 struct reply {
@@ -93,20 +100,35 @@ static int is_untouched(const struct room *room, enum end end) {
 /* ---- the calls */
 
 static struct answer of_receipt(offers_receipt r) {
-    struct answer a = {r.number, r.place, r.detail, 0, r.outcome, r.cancelled, {0}};
+    struct answer a = {.number = r.number, .place = r.place, .detail = r.detail, .outcome = r.outcome, .cancelled = r.cancelled};
     memcpy(a.parts, r.parts, sizeof a.parts);
     return a;
 }
 
+static struct answer of_value(uint64_t number, uint64_t place, uint64_t detail, uint64_t value) {
+    return (struct answer){.number = number, .place = place, .detail = detail, .value = value};
+}
+
 static struct answer of_quote(offers_quote q) {
-    struct answer a = {q.number, q.place, q.detail, q.fare, 0, 0, {0}};
+    struct answer a = of_value(q.number, q.place, q.detail, q.fare);
     memcpy(a.parts, q.parts, sizeof a.parts);
     return a;
 }
 
-static struct answer of_judgement(offers_judgement j) { return (struct answer){j.number, j.place, j.detail, j.records, 0, 0, {0}}; }
+static struct answer of_judgement(offers_judgement j) { return of_value(j.number, j.place, j.detail, j.records); }
 
-static struct answer of_sum(offers_sum s) { return (struct answer){s.number, s.place, s.detail, s.amount, 0, 0, {0}}; }
+static struct answer of_sum(offers_sum s) { return of_value(s.number, s.place, s.detail, s.amount); }
+
+static struct answer of_tally(offers_tally t) { return of_value(t.number, t.place, t.detail, t.entries); }
+
+static struct answer of_booking(offers_booking b) {
+    struct answer a = {.number = b.number, .place = b.place, .detail = b.detail, .entry = b.entry, .sequence = b.sequence};
+    a.till = b.till;
+    a.status = b.status;
+    a.question = b.question;
+    memcpy(a.parts, b.parts, sizeof a.parts);
+    return a;
+}
 
 static struct answer ask(const struct request *r, const struct room *bundle, const struct room *lent) {
     uint32_t *book = (uint32_t *)(void *)lent->buffer;
@@ -118,6 +140,9 @@ static struct answer ask(const struct request *r, const struct room *bundle, con
     case CANCEL: return of_receipt(offers_cancel(book, words, r->till, r->sequence));
     case BALANCE: return of_sum(offers_balance(book, words, r->railway));
     case TOTAL: return of_sum(offers_total(book, words));
+    case COUNT: return of_tally(offers_count(book, words));
+    case ENTRY: return of_booking(offers_entry(book, words, r->entry));
+    case FIND: return of_booking(offers_find(book, words, r->till, r->sequence));
     }
     fprintf(stderr, "driver: no call %u\n", r->call);
     exit(2);
@@ -126,12 +151,16 @@ static struct answer ask(const struct request *r, const struct room *bundle, con
 static int reads_bundle(const struct request *r) { return r->call <= SALE; }
 static int reads_book(const struct request *r) { return r->call >= SALE; }
 static int writes_book(const struct request *r) { return r->call == SALE || r->call == CANCEL; }
+static int tells_a_sum(const struct request *r) { return r->call == BALANCE || r->call == TOTAL; }
+static int tells_a_sale(const struct request *r) { return r->call == ENTRY || r->call == FIND; }
 
 /* ---- spoiling */
 
-enum wrong { ANSWER, ONE_ANSWER, SUM, WORD, ONE_WORD, READ_BEHIND, READ_BEFORE, WRITE_BEHIND, WRITE_SLACK, WRITE_BUNDLE, WRONGS };
-static const char *const WRONG_NAMES[WRONGS] = {"answer",      "one-answer",  "sum",          "word",        "one-word",
-                                                "read-behind", "read-before", "write-behind", "write-slack", "write-bundle"};
+enum wrong {
+    ANSWER, ONE_ANSWER, SUM, READING, WORD, ONE_WORD, READ_BEHIND, READ_BEFORE, WRITE_BEHIND, WRITE_SLACK, WRITE_BUNDLE, WRITE_READ, WRONGS
+};
+static const char *const WRONG_NAMES[WRONGS] = {"answer",      "one-answer",  "sum",          "reading",     "word",         "one-word",
+                                                "read-behind", "read-before", "write-behind", "write-slack", "write-bundle", "write-read"};
 static enum wrong wrong = WRONGS;
 static uint64_t requests_until_wrong;
 
@@ -139,16 +168,20 @@ static int is_wrong_now(const struct request *r) {
     if (wrong == WRONGS) return 0;
     if (requests_until_wrong > 0) requests_until_wrong--;
     if (requests_until_wrong > 0) return 0;
+    int has_book = r->book_sent > 0 || r->book_kept;
     int needs_bundle = wrong == READ_BEHIND || wrong == READ_BEFORE || wrong == WRITE_BUNDLE;
     int needs_book = wrong == WORD || wrong == ONE_WORD || wrong == WRITE_BEHIND || wrong == WRITE_SLACK;
     if (needs_bundle) return reads_bundle(r) && r->bundle_sent > 0;
-    if (wrong == SUM) return reads_book(r) && !writes_book(r);
-    if (needs_book) return writes_book(r) && (r->book_sent > 0 || r->book_kept);
+    if (wrong == SUM) return tells_a_sum(r);
+    if (wrong == READING) return tells_a_sale(r);
+    if (wrong == WRITE_READ) return r->call >= COUNT && has_book;
+    if (needs_book) return writes_book(r) && has_book;
     return 1;
 }
 
 static void spoil_answer(const struct request *r, struct answer *answer) {
     if (writes_book(r)) answer->parts[0] ^= 1;
+    else if (tells_a_sale(r)) answer->question.legs[OFFERS_MOST_LEGS - 1].fare ^= 1;
     else answer->value ^= 1;
 }
 
@@ -156,7 +189,8 @@ static void spoil(const struct request *r, enum end end, struct answer *answer, 
     volatile uint8_t *bundle_bytes = bundle->buffer, *book_bytes = book->buffer;
     switch (wrong) {
     case ANSWER:
-    case SUM: spoil_answer(r, answer); break;
+    case SUM:
+    case READING: spoil_answer(r, answer); break;
     case ONE_ANSWER:
         if (end == BEHIND) spoil_answer(r, answer);
         break;
@@ -169,6 +203,7 @@ static void spoil(const struct request *r, enum end end, struct answer *answer, 
         if (end == BEFORE) book_bytes[book->length] = 0;
         break;
     case WRITE_BUNDLE: bundle_bytes[0] ^= 0; break;
+    case WRITE_READ: book_bytes[0] ^= 0; break;
     case WRONGS: break;
     }
 }

@@ -74,8 +74,8 @@ pub struct Compared {
     pub difference: Option<String>,
 }
 
-/// Another reckoning of an amount, and what it comes to.
-type Due = (&'static str, u64);
+/// Another reckoning of an answer, and what it comes to.
+type Due = (&'static str, Answer);
 
 impl Compared {
     fn of_second_alone(second: Answer, book: Vec<u32>) -> Compared {
@@ -92,14 +92,13 @@ impl Compared {
         }
     }
 
-    /// What the library tells, unless it refuses or ends.
-    fn amount(&self) -> Option<u64> {
-        let answer = self.library.as_ref().ok()?.answer;
-        (answer.number == 0).then_some(answer.value)
+    /// What the library tells, unless it ends.
+    fn told(&self) -> Option<Answer> {
+        self.library.as_ref().ok().map(|reply| reply.answer)
     }
 
     fn hold(&mut self, dues: &[Due]) {
-        let told = self.amount();
+        let told = self.told();
         let wrong = dues.iter().filter(|due| told != Some(due.1));
         let complaints = wrong.map(|(reckoning, due)| format!("{reckoning} comes to {due}"));
         let all: Vec<String> = self
@@ -233,31 +232,31 @@ impl Bench {
 #[cfg(test)]
 mod tests {
     use super::*;
+    use crate::refusal::Refusal;
 
-    fn told(number: u64, value: u64) -> Compared {
-        let answer = Answer {
-            number,
-            value,
-            ..Answer::default()
-        };
+    fn told(answer: Answer) -> Compared {
         Compared::of_second_alone(answer, Vec::new())
+    }
+
+    fn due(reckoning: &'static str, amount: u64) -> Due {
+        (reckoning, Answer::of_value(amount))
     }
 
     #[test]
     fn an_amount_is_held_to_each_reckoning() {
-        let mut compared = told(0, 5);
-        compared.hold(&[("one", 5), ("two", 5)]);
+        let mut compared = told(Answer::of_value(5));
+        compared.hold(&[due("one", 5), due("two", 5)]);
         assert_eq!(compared.difference, None);
-        compared.hold(&[("one", 5), ("two", 6)]);
-        compared.hold(&[("three", 7)]);
+        compared.hold(&[due("one", 5), due("two", 6)]);
+        compared.hold(&[due("three", 7)]);
         let complaints = compared.difference.as_deref();
         assert_eq!(complaints, Some("two comes to 6; three comes to 7"));
     }
 
     #[test]
     fn a_refusal_tells_no_amount() {
-        let mut compared = told(21, 0);
-        compared.hold(&[("one", 0)]);
+        let mut compared = told(Answer::of_refusal(&Refusal::of_call(21)));
+        compared.hold(&[due("one", 0)]);
         assert_eq!(compared.difference.as_deref(), Some("one comes to 0"));
     }
 

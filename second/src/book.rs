@@ -1,4 +1,4 @@
-//! Renders "The sales book": its entries, its soundness and the calls on it.
+//! Renders "The sales book": its entries, its soundness and the calls on it. Those that read its sales go by the rules of the house.
 
 pub mod words;
 
@@ -43,6 +43,18 @@ pub enum Cancel {
 #[derive(Clone, Copy, Debug, PartialEq, Eq)]
 pub enum Sum {
     Amount(u64),
+    Refused(Refusal),
+}
+
+#[derive(Clone, Copy, Debug, PartialEq, Eq)]
+pub enum Count {
+    Entries(u64),
+    Refused(Refusal),
+}
+
+#[derive(Clone, Copy, Debug, PartialEq, Eq)]
+pub enum Reading {
+    Found { place: u64, entry: Entry },
     Refused(Refusal),
 }
 
@@ -146,7 +158,7 @@ impl Book {
     fn try_cancel(&mut self, till: u64, sequence: u64) -> Result<Cancel, Refusal> {
         self.check_sound()?;
         check_sale_number(till, sequence)?;
-        let place = self.place_of(till, sequence).ok_or(Refusal::of_call(25))?;
+        let place = self.place_of(till, sequence).ok_or(unknown())?;
         let entry = &mut self.entries[place];
         let parts = entry.parts;
         if entry.cancelled {
@@ -176,6 +188,39 @@ impl Book {
         }
     }
 
+    pub fn count(&self) -> Count {
+        match self.check_sound() {
+            Err(refusal) => Count::Refused(refusal),
+            Ok(()) => Count::Entries(self.entries.len() as u64),
+        }
+    }
+
+    pub fn entry(&self, place: u64) -> Reading {
+        match self.check_sound() {
+            Err(refusal) => Reading::Refused(refusal),
+            Ok(()) => self.reading_at(place),
+        }
+    }
+
+    fn reading_at(&self, place: u64) -> Reading {
+        match (0..).zip(&self.entries).find(|(own, _)| *own == place) {
+            Some((place, &entry)) => Reading::Found { place, entry },
+            None => Reading::Refused(unknown()),
+        }
+    }
+
+    pub fn find(&self, till: u64, sequence: u64) -> Reading {
+        self.try_find(till, sequence)
+            .unwrap_or_else(Reading::Refused)
+    }
+
+    fn try_find(&self, till: u64, sequence: u64) -> Result<Reading, Refusal> {
+        self.check_sound()?;
+        check_sale_number(till, sequence)?;
+        let place = self.place_of(till, sequence).ok_or(unknown())?;
+        Ok(self.reading_at(place as u64))
+    }
+
     fn live_entries(&self) -> impl Iterator<Item = &Entry> {
         self.entries.iter().filter(|entry| !entry.cancelled)
     }
@@ -191,6 +236,10 @@ impl Book {
 
 fn unsound() -> Refusal {
     Refusal::of_call(21)
+}
+
+fn unknown() -> Refusal {
+    Refusal::of_call(25)
 }
 
 fn check_sale_number(till: u64, sequence: u64) -> Result<(), Refusal> {
@@ -433,6 +482,71 @@ mod tests {
         assert_eq!(book.balance(1185), Sum::Amount(203_763_529_728));
     }
 
+    fn found(place: u64, entry: Entry) -> Reading {
+        Reading::Found { place, entry }
+    }
+
+    fn refused_reading(number: u8) -> Reading {
+        Reading::Refused(Refusal::new(number, 0, 0))
+    }
+
+    #[test]
+    fn a_book_counts_its_entries_cancelled_ones_too() {
+        assert_eq!(Book::default().count(), Count::Entries(0));
+        let mut book = full_book();
+        assert_eq!(book.count(), Count::Entries(256));
+        book.cancel(1, 7);
+        assert_eq!(book.count(), Count::Entries(256));
+    }
+
+    #[test]
+    fn entries_are_read_in_the_order_of_booking() {
+        let mut book = one_sale();
+        book.sale(&newer_bundle(), 9, 4, &asked(1, &[], &[(1, 20)]));
+        for (place, entry) in (0..).zip(book.entries.clone()) {
+            assert_eq!(book.entry(place), found(place, entry));
+            assert_eq!(book.find(entry.till, entry.sequence), found(place, entry));
+        }
+        for behind in [2, 3, 255, 256, 1 << 32, (1 << 32) + 1, u64::MAX] {
+            assert_eq!(book.entry(behind), refused_reading(25), "{behind}");
+        }
+        assert_eq!(Book::default().entry(0), refused_reading(25));
+        assert_eq!(full_book().entry(256), refused_reading(25));
+    }
+
+    #[test]
+    fn a_sale_is_read_as_it_was_first_booked() {
+        let mut book = Book::default();
+        let mut question = two_legs();
+        question.legs[2].fare = 77;
+        book.sale(&bundle(), 1, 1, &question);
+        let mut entry = Entry {
+            till: 1,
+            sequence: 1,
+            question: two_legs(),
+            parts: PARTS,
+            cancelled: false,
+        };
+        book.sale(&newer_bundle(), 1, 1, &two_legs());
+        assert_eq!(book.find(1, 1), found(0, entry));
+        book.cancel(1, 1);
+        book.sale(&newer_bundle(), 1, 1, &two_legs());
+        entry.cancelled = true;
+        assert_eq!(book.find(1, 1), found(0, entry));
+        assert_eq!(book.entry(0), found(0, entry));
+    }
+
+    #[test]
+    fn a_number_out_of_limits_is_22_and_an_unknown_one_25() {
+        let book = full_book();
+        for (till, sequence) in [(0, 1), (1, 0), (65_536, 1), (1, (1 << 32) + 1)] {
+            assert_eq!(book.find(till, sequence), refused_reading(22));
+        }
+        for (till, sequence) in [(1, 257), (2, 1), (65_535, LARGEST_SEQUENCE)] {
+            assert_eq!(book.find(till, sequence), refused_reading(25));
+        }
+    }
+
     fn is_unsound(change: impl Fn(&mut Book)) -> bool {
         let mut book = full_book();
         book.entries.truncate(3);
@@ -441,7 +555,10 @@ mod tests {
         let answers_21 = refused_sale(book.sale(b"XX", 0, 0, &two_legs())) == (21, 0, 0)
             && refused_cancel(book.cancel(0, 0)) == (21, 0, 0)
             && book.balance(0) == Sum::Refused(unsound())
-            && book.total() == Sum::Refused(unsound());
+            && book.total() == Sum::Refused(unsound())
+            && book.count() == Count::Refused(unsound())
+            && book.entry(u64::MAX) == Reading::Refused(unsound())
+            && book.find(0, 0) == Reading::Refused(unsound());
         assert_eq!(answers_21, !book.is_sound());
         answers_21
     }

@@ -7,7 +7,9 @@ use super::wire::{Answer, Call, Lent, Name};
 use super::Bench;
 use crate::book::words::{empty_book, words_of_book, BOOK_WORDS};
 use crate::bundle::LONGEST_BUNDLE;
-use crate::generate::books::{book_at_the_bound, sale_number, sound_book, BookDefect};
+use crate::generate::books::{
+    book_at_the_bound, entry_places, sale_number, sound_book, BookDefect,
+};
 use crate::generate::breakage::{every_breakage, Breakage};
 use crate::generate::corpus::{every_row, Corpus};
 use crate::generate::crowded::Crowded;
@@ -26,7 +28,7 @@ use crate::question::{
 /// The last of so many verdict cases judges a crowded bundle as well.
 const CROWDED_ONE_IN: u64 = 8;
 const QUESTIONS_PER_BUNDLE: u64 = 12;
-const STEPS_PER_BOOK: u64 = 8;
+const STEPS_PER_BOOK: u64 = 9;
 const BOOKS_PER_KIND: u64 = 4;
 const TILLS: [u64; 5] = [0, 1, 65_535, 65_536, u32::MAX as u64];
 const SEQUENCES: [u64; 5] = [0, 1, (1 << 32) - 1, 1 << 32, u64::MAX];
@@ -197,8 +199,12 @@ fn each_call_on(bench: &mut Bench, random: &mut Random, book: &[u32]) -> io::Res
     let bundle = valid_bundle(random);
     let (till, sequence) = known_or_drawn_number(random, book);
     let asked = question(random, &bundle);
+    let places = entry_places(random, entries_told(book));
     let lent = Lent::of(&bundle, book);
     for call in [
+        Call::of(Name::Count),
+        Call::entry(random.pick(&places)),
+        Call::find(till, sequence),
         Call::sale(till, sequence, &asked),
         Call::cancel(till, sequence),
         Call::balance(random.pick(&RAILWAYS)),
@@ -208,6 +214,10 @@ fn each_call_on(bench: &mut Bench, random: &mut Random, book: &[u32]) -> io::Res
     }
     let total = bench.ask_held(&Call::of(Name::Total), &lent, &[])?;
     Ok(total.second)
+}
+
+fn entries_told(book: &[u32]) -> u64 {
+    book.first().copied().map_or(0, u64::from)
 }
 
 pub fn kinds_of_malformed_books() -> Vec<String> {
@@ -246,13 +256,11 @@ fn limits(bench: &mut Bench, random: &mut Random) -> io::Result<()> {
     bench.ask(&Call::fare(&most_asked(cards)), &lent)?;
     for till in TILLS {
         let sequence = random.pick(&SEQUENCES);
-        bench.ask(&Call::sale(till, sequence, &asked), &lent)?;
-        bench.ask(&Call::cancel(till, sequence), &lent)?;
+        under_a_number(bench, &lent, (till, sequence), &asked)?;
     }
     for sequence in SEQUENCES {
         let till = random.pick(&TILLS);
-        bench.ask(&Call::sale(till, sequence, &asked), &lent)?;
-        bench.ask(&Call::cancel(till, sequence), &lent)?;
+        under_a_number(bench, &lent, (till, sequence), &asked)?;
     }
     for count in COUNTS {
         asked.leg_count = count;
@@ -263,7 +271,21 @@ fn limits(bench: &mut Bench, random: &mut Random) -> io::Result<()> {
     for railway in RAILWAYS {
         bench.ask(&Call::balance(railway), &lent)?;
     }
-    Ok(())
+    for place in entry_places(random, entries_told(&book)) {
+        bench.ask(&Call::entry(place), &lent)?;
+    }
+    bench.ask(&Call::of(Name::Count), &lent)
+}
+
+fn under_a_number(
+    bench: &mut Bench,
+    lent: &Lent,
+    (till, sequence): (u64, u64),
+    asked: &Question,
+) -> io::Result<()> {
+    bench.ask(&Call::sale(till, sequence, asked), lent)?;
+    bench.ask(&Call::cancel(till, sequence), lent)?;
+    bench.ask(&Call::find(till, sequence), lent)
 }
 
 /// In rising rating.
@@ -314,6 +336,9 @@ fn overlong(bench: &mut Bench, random: &mut Random) -> io::Result<()> {
         Call::cancel(1, 1),
         Call::balance(1185),
         Call::of(Name::Total),
+        Call::of(Name::Count),
+        Call::entry(0),
+        Call::find(1, 1),
     ];
     let long_book = Lent {
         book_more: 1 << 32,

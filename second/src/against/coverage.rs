@@ -1,5 +1,7 @@
 //! Renders "Numbers that turn work away" as a table of what a run has met.
 
+mod readings;
+
 use std::collections::BTreeMap;
 use std::fmt::Write;
 
@@ -65,6 +67,8 @@ const GREATEST_PRICED: [u64; CARD_SLOTS + 1] = [
     8 * 99 * 1_003_955,
     8 * 99 * 1_004_934,
 ];
+const EDGES_OF_TILL: [u64; 4] = [0, 65_535, 65_536, u32::MAX as u64];
+const EDGES_OF_SEQUENCE: [u64; 4] = [0, u32::MAX as u64, 1 << 32, u64::MAX];
 const WIDEST_LINE: usize = 110;
 
 type Point = (String, String);
@@ -127,6 +131,7 @@ impl Coverage {
 
     pub fn note(&mut self, call: &Call, lent: &Lent, answer: &Answer) {
         self.note_arguments(call, lent);
+        self.note_reading(call, lent, answer);
         if answer.number != 0 {
             self.meet(call.name.word(), answer.number);
             if matches!(call.name, Name::Fare | Name::Sale) {
@@ -357,7 +362,9 @@ fn numbers_of(name: Name) -> &'static [u64] {
         Name::Sale => &[1, 2, 3, 4, 5, 6, 7, 11, 17, 12, 13, 14, 15, 21, 22, 23, 24],
         Name::Cancel => &[21, 22, 25],
         Name::Balance => &[11, 21],
-        Name::Total => &[21],
+        Name::Total | Name::Count => &[21],
+        Name::Entry => &[21, 25],
+        Name::Find => &[21, 22, 25],
     }
 }
 
@@ -366,6 +373,7 @@ fn every_point() -> Vec<Point> {
     let mut groups = groups_of_numbers();
     groups.extend(groups_of_crowds());
     groups.extend(groups_of_histories());
+    groups.extend(readings::groups());
     groups.extend(groups_of_pricing());
     groups.extend(groups_of_cards());
     groups.extend(groups_of_arguments());
@@ -454,8 +462,8 @@ fn groups_of_arguments() -> Vec<Group> {
     let greatest = u64::from(u32::MAX);
     vec![
         group(BUNDLE_BYTES, &[0, LONGEST_BUNDLE, LONGEST_BUNDLE + 1]),
-        group(TILL, &[0, 65_535, 65_536, greatest]),
-        group(SEQUENCE, &[0, greatest, greatest + 1, u64::MAX]),
+        group(TILL, &EDGES_OF_TILL),
+        group(SEQUENCE, &EDGES_OF_SEQUENCE),
         group(LEG_COUNT, &[0, 8, 9, greatest]),
         group(RAILWAY, &[0, 9999, 10_000, greatest]),
         group(MALFORMED, &kinds_of_malformed_books()),

@@ -4,7 +4,7 @@ use std::io;
 
 use super::tally::Tally;
 use super::wire::{Answer, Call, Lent, Name};
-use super::{Bench, Due};
+use super::{Bench, Compared, Due};
 use crate::book::words::{book_of_words, empty_book};
 use crate::book::{Book, MOST_ENTRIES};
 use crate::fare::{fare, Fare};
@@ -15,21 +15,25 @@ use crate::generate::questions::{question_in_limits, with_cards, with_legs};
 use crate::generate::random::Random;
 use crate::generate::resent::{Change, Sent};
 use crate::layout::Table;
-use crate::question::{is_railway, Question, CARD_SLOTS, LEG_SLOTS};
+use crate::question::{Question, CARD_SLOTS, LEG_SLOTS};
 
-const MIXED_STEPS: u64 = 40;
+const MIXED_STEPS: u64 = 44;
 const STEPS_OF_A_FULL_BOOK: u64 = 30;
 const STEPS_BEFORE_RESENDING: u64 = 6;
+/// So many sales and cancels come to one reading of the book.
+const STEPS_PER_READING: u64 = 2;
+const MOST_READ_THROUGH: u64 = 16;
 
 pub fn run(bench: &mut Bench, random: &mut Random, turn: u64) -> io::Result<()> {
     let eighth = turn as usize / 8;
     let (legs, cards) = (1 + eighth % LEG_SLOTS, eighth % (CARD_SLOTS + 1));
-    match turn % 16 {
+    let course = match turn % 16 {
         0 => filling(bench, random),
         1 | 9 => mixed(bench, random, starting_book),
         2 | 10 => resending(bench, random, legs, cards),
         _ => mixed(bench, random, |_| empty_book()),
-    }
+    };
+    course?.read_through(bench)
 }
 
 /// A book on its way through a history, with the tally beside it; none beside an unsound book.
@@ -37,6 +41,7 @@ struct Course {
     bundles: Vec<Vec<u8>>,
     book: Vec<u32>,
     tally: Option<Tally>,
+    settled: u64,
 }
 
 impl Course {
@@ -46,6 +51,7 @@ impl Course {
             bundles,
             book,
             tally: known.map(|known| Tally::of(&known)),
+            settled: 0,
         }
     }
 
@@ -60,19 +66,20 @@ impl Course {
         self.book = compared.book;
         if matches!(call.name, Name::Sale | Name::Cancel) {
             self.settle(bench, &call.question, &compared.second)?;
+            self.read_after(bench, &call, &compared.second)?;
         }
         Ok(compared.second)
     }
 
     fn dues(&self, call: &Call) -> Vec<Due> {
-        let railway = u64::from(call.railway);
-        match (&self.tally, call.name) {
-            (Some(tally), Name::Total) => vec![("the history", tally.total())],
-            (Some(tally), Name::Balance) if is_railway(railway) => {
-                vec![("the history", tally.balance(railway))]
-            }
-            _ => Vec::new(),
-        }
+        let answer = self.tally.as_ref().and_then(|tally| tally.answer(call));
+        let due = answer.map(|answer| ("the history", answer));
+        due.into_iter().collect()
+    }
+
+    /// Of a call that needs no bundle and leaves the book as it is.
+    fn ask(&self, bench: &mut Bench, call: &Call) -> io::Result<Compared> {
+        bench.ask_held(call, &Lent::of(&[], &self.book), &self.dues(call))
     }
 
     /// Asks every balance, and the total, which must also be their sum.
@@ -80,18 +87,42 @@ impl Course {
         let Some(tally) = &self.tally else {
             return Ok(());
         };
-        let lent = Lent::of(&[], &self.book);
         let mut sum = 0;
         for railway in tally.railways(asked) {
-            let call = Call::balance(railway);
-            let compared = bench.ask_held(&call, &lent, &self.dues(&call))?;
-            sum += compared.amount().unwrap_or(0);
+            let compared = self.ask(bench, &Call::balance(railway))?;
+            sum += compared.told().map_or(0, |told| told.value);
         }
         let call = Call::of(Name::Total);
         let mut dues = self.dues(&call);
-        dues.push(("the sum of the balances", sum));
-        bench.ask_held(&call, &lent, &dues)?;
+        dues.push(("the sum of the balances", Answer::of_value(sum)));
+        bench.ask_held(&call, &Lent::of(&[], &self.book), &dues)?;
         bench.coverage.note_settled(answer);
+        Ok(())
+    }
+
+    /// Reads the book, each time in another way.
+    fn read_after(&mut self, bench: &mut Bench, step: &Call, answer: &Answer) -> io::Result<()> {
+        let Some(tally) = &self.tally else {
+            return Ok(());
+        };
+        self.settled += 1;
+        if !self.settled.is_multiple_of(STEPS_PER_READING) {
+            return Ok(());
+        }
+        let call = reading_after(step, tally, self.settled / STEPS_PER_READING);
+        let read = self.ask(bench, &call)?.second;
+        let coverage = &mut bench.coverage;
+        coverage.note_read_after(step, answer, &call, &read);
+        Ok(())
+    }
+
+    /// Reads every entry, of a long book one in so many.
+    fn read_through(&self, bench: &mut Bench) -> io::Result<()> {
+        let count = self.tally.as_ref().map_or(0, Tally::count);
+        let stride = 1 + count / MOST_READ_THROUGH;
+        for place in (0..count).step_by(stride as usize) {
+            self.ask(bench, &Call::entry(place))?;
+        }
         Ok(())
     }
 
@@ -126,6 +157,22 @@ impl Course {
     }
 }
 
+/// In turn the count, the entry booked last, a number that is hardly in the book, a cancelled sale and the sale of the step.
+fn reading_after(step: &Call, tally: &Tally, turn: u64) -> Call {
+    let (till, sequence) = step.sale_number();
+    let cancelled = tally.cancelled();
+    match turn % 5 {
+        0 => Call::of(Name::Count),
+        1 => Call::entry(tally.count().saturating_sub(1)),
+        2 => Call::find(till, sequence ^ 1),
+        3 if !cancelled.is_empty() => {
+            let (till, sequence) = cancelled[turn as usize % cancelled.len()];
+            Call::find(till, sequence)
+        }
+        _ => Call::find(till, sequence),
+    }
+}
+
 /// The call, and the place of the bundle it is lent.
 pub fn call_of(step: &Step) -> (Call, Option<usize>) {
     match *step {
@@ -136,6 +183,9 @@ pub fn call_of(step: &Step) -> (Call, Option<usize>) {
         Step::Cancel { till, sequence } => (Call::cancel(till, sequence), None),
         Step::Balance { railway } => (Call::balance(railway), None),
         Step::Total => (Call::of(Name::Total), None),
+        Step::Count => (Call::of(Name::Count), None),
+        Step::Entry { place } => (Call::entry(place), None),
+        Step::Find { till, sequence } => (Call::find(till, sequence), None),
     }
 }
 
@@ -143,16 +193,16 @@ fn mixed(
     bench: &mut Bench,
     random: &mut Random,
     book: impl Fn(&mut Random) -> Vec<u32>,
-) -> io::Result<()> {
+) -> io::Result<Course> {
     let mut course = Course::from(drawn_bundles(random), book(random));
     for _ in 0..MIXED_STEPS {
         course.take_drawn(bench, random)?;
     }
-    Ok(())
+    Ok(course)
 }
 
 /// From the empty book until it is full, and on.
-fn filling(bench: &mut Bench, random: &mut Random) -> io::Result<()> {
+fn filling(bench: &mut Bench, random: &mut Random) -> io::Result<Course> {
     let mut bundles = drawn_bundles(random);
     let question = priceable(random, &mut bundles);
     let mut course = Course::from(bundles, empty_book());
@@ -167,11 +217,16 @@ fn filling(bench: &mut Bench, random: &mut Random) -> io::Result<()> {
         course.take_drawn(bench, random)?;
     }
     course.take(bench, &sale_of(random, question))?;
-    Ok(())
+    Ok(course)
 }
 
 /// A sale of so many legs and cards, sent again with every change there is, before its cancellation and after it.
-fn resending(bench: &mut Bench, random: &mut Random, legs: usize, cards: usize) -> io::Result<()> {
+fn resending(
+    bench: &mut Bench,
+    random: &mut Random,
+    legs: usize,
+    cards: usize,
+) -> io::Result<Course> {
     let mut bundles = drawn_bundles(random);
     let question = priceable(random, &mut bundles);
     let question = with_legs(random, &question, legs);
@@ -193,7 +248,7 @@ fn resending(bench: &mut Bench, random: &mut Random, legs: usize, cards: usize) 
             course.resend(bench, random, &sent, change)?;
         }
     }
-    Ok(())
+    Ok(course)
 }
 
 fn numbered(random: &mut Random, question: Question) -> Sent {

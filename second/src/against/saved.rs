@@ -44,11 +44,14 @@ pub fn text(call: &Call, lent: &Lent, compared: &Compared) -> String {
 
 fn asked(call: &Call, lent: &Lent) -> String {
     let mut text = format!("asked: {}\n", call.name.word());
-    if matches!(call.name, Name::Sale | Name::Cancel) {
+    if matches!(call.name, Name::Sale | Name::Cancel | Name::Find) {
         let _ = writeln!(text, "till {}, sequence {}", call.till, call.sequence);
     }
     if matches!(call.name, Name::Fare | Name::Sale) {
         let _ = writeln!(text, "{:?}", call.question);
+    }
+    if call.name == Name::Entry {
+        let _ = writeln!(text, "entry {}", call.entry);
     }
     if call.name == Name::Balance {
         let _ = writeln!(text, "railway {}", call.railway);

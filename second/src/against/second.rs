@@ -1,8 +1,8 @@
 //! Renders every section as one function: what the second program answers to a call.
 
-use super::wire::{outcome, Answer, Call, Lent, Name};
-use crate::book::words::{balance, cancel, sale, total};
-use crate::book::{Cancel, Sale, Sum};
+use super::wire::{outcome, words_of, Answer, Call, Lent, Name};
+use crate::book::words::{balance, cancel, count, entry, find, sale, total};
+use crate::book::{Cancel, Count, Reading, Sale, Sum};
 use crate::bundle::LONGEST_BUNDLE;
 use crate::fare::{fare, Fare, Parts};
 use crate::refusal::Refusal;
@@ -14,7 +14,7 @@ pub fn answer(call: &Call, lent: &Lent) -> (Answer, Vec<u32>) {
         return (answer_to_overlong(call, lent), lent.book.to_vec());
     }
     let mut book = lent.book.to_vec();
-    let (till, sequence) = (u64::from(call.till), call.sequence);
+    let (till, sequence) = call.sale_number();
     let answer = match call.name {
         Name::Verdict => of_verdict(&verdict(lent.bundle)),
         Name::Fare => of_fare(&fare(lent.bundle, &call.question)),
@@ -28,6 +28,9 @@ pub fn answer(call: &Call, lent: &Lent) -> (Answer, Vec<u32>) {
         Name::Cancel => of_cancel(&cancel(&mut book, till, sequence)),
         Name::Balance => of_sum(&balance(&book, u64::from(call.railway))),
         Name::Total => of_sum(&total(&book)),
+        Name::Count => of_count(&count(&book)),
+        Name::Entry => of_reading(&entry(&book, call.entry)),
+        Name::Find => of_reading(&find(&book, till, sequence)),
     };
     (answer, book)
 }
@@ -44,33 +47,24 @@ fn answer_to_overlong(call: &Call, lent: &Lent) -> Answer {
     answer(call, &Lent::of(bundle, book)).0
 }
 
-fn refused(refusal: &Refusal) -> Answer {
-    Answer {
-        number: u64::from(refusal.number),
-        place: refusal.place,
-        detail: refusal.detail,
-        ..Answer::default()
-    }
-}
-
 fn of_verdict(verdict: &Verdict) -> Answer {
     match *verdict {
-        Verdict::Accepted(records) => told(records),
+        Verdict::Accepted(records) => Answer::of_value(records),
         Verdict::Refused {
             number,
             place,
             detail,
-        } => refused(&Refusal::new(number, place, detail)),
+        } => Answer::of_refusal(&Refusal::new(number, place, detail)),
     }
 }
 
 fn of_fare(fare: &Fare) -> Answer {
     match fare {
         Fare::Priced { parts, total } => Answer {
-            parts: words(parts),
-            ..told(*total)
+            parts: words_of(parts),
+            ..Answer::of_value(*total)
         },
-        Fare::Refused(refusal) => refused(refusal),
+        Fare::Refused(refusal) => Answer::of_refusal(refusal),
     }
 }
 
@@ -80,7 +74,7 @@ fn of_sale(sale: &Sale) -> Answer {
         Sale::AlreadyBooked { parts, cancelled } => {
             receipt(outcome::ALREADY_BOOKED, *cancelled, parts)
         }
-        Sale::Refused(refusal) => refused(refusal),
+        Sale::Refused(refusal) => Answer::of_refusal(refusal),
     }
 }
 
@@ -88,21 +82,28 @@ fn of_cancel(cancel: &Cancel) -> Answer {
     match cancel {
         Cancel::Cancelled { parts } => receipt(outcome::CANCELLED, true, parts),
         Cancel::AlreadyCancelled { parts } => receipt(outcome::ALREADY_CANCELLED, true, parts),
-        Cancel::Refused(refusal) => refused(refusal),
+        Cancel::Refused(refusal) => Answer::of_refusal(refusal),
     }
 }
 
 fn of_sum(sum: &Sum) -> Answer {
     match sum {
-        Sum::Amount(amount) => told(*amount),
-        Sum::Refused(refusal) => refused(refusal),
+        Sum::Amount(amount) => Answer::of_value(*amount),
+        Sum::Refused(refusal) => Answer::of_refusal(refusal),
     }
 }
 
-fn told(value: u64) -> Answer {
-    Answer {
-        value,
-        ..Answer::default()
+fn of_count(count: &Count) -> Answer {
+    match count {
+        Count::Entries(entries) => Answer::of_value(*entries),
+        Count::Refused(refusal) => Answer::of_refusal(refusal),
+    }
+}
+
+fn of_reading(reading: &Reading) -> Answer {
+    match reading {
+        Reading::Found { place, entry } => Answer::of_entry(*place, entry),
+        Reading::Refused(refusal) => Answer::of_refusal(refusal),
     }
 }
 
@@ -110,11 +111,7 @@ fn receipt(outcome: u32, cancelled: bool, parts: &Parts) -> Answer {
     Answer {
         outcome,
         cancelled: u32::from(cancelled),
-        parts: words(parts),
+        parts: words_of(parts),
         ..Answer::default()
     }
-}
-
-fn words(parts: &Parts) -> [u32; 8] {
-    parts.map(|part| u32::try_from(part).expect("a part within its bound"))
 }

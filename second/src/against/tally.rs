@@ -1,19 +1,20 @@
 //! Renders demand 3: what a history of sales and cancels comes to, kept from its calls alone.
 
 use std::collections::{BTreeMap, BTreeSet};
-use std::mem;
 
-use super::wire::{Call, Name};
-use crate::book::{is_sale_number, Book, MOST_ENTRIES};
+use super::wire::{Answer, Call, Name};
+use crate::book::{is_sale_number, Book, Entry, MOST_ENTRIES};
 use crate::fare::{fare, Fare, Parts};
 use crate::question::{is_railway, Question};
+use crate::refusal::Refusal;
 
 pub type Number = (u64, u64);
 
 #[derive(Default)]
 pub struct Tally {
-    /// Railways and parts of each number ever booked. A cancelled one has none left.
-    sales: BTreeMap<Number, Vec<(u64, u64)>>,
+    /// By their first bookings, and in their order.
+    sales: Vec<Entry>,
+    places: BTreeMap<Number, usize>,
     owed: BTreeMap<u64, u64>,
 }
 
@@ -31,16 +32,15 @@ impl Tally {
     }
 
     pub fn note(&mut self, call: &Call, bundle: &[u8]) {
-        let number = (u64::from(call.till), call.sequence);
         match call.name {
-            Name::Sale => self.sell(number, &call.question, bundle),
-            Name::Cancel => self.cancel(number),
+            Name::Sale => self.sell(call.sale_number(), &call.question, bundle),
+            Name::Cancel => self.cancel(call.sale_number()),
             _ => (),
         }
     }
 
     fn sell(&mut self, number: Number, question: &Question, bundle: &[u8]) {
-        let is_new = is_sale_number(number.0, number.1) && !self.sales.contains_key(&number);
+        let is_new = is_sale_number(number.0, number.1) && !self.places.contains_key(&number);
         if !is_new || self.sales.len() == MOST_ENTRIES {
             return;
         }
@@ -50,23 +50,70 @@ impl Tally {
     }
 
     fn book(&mut self, number: Number, question: &Question, parts: &Parts) {
-        let railways = question.used_legs().iter().map(|leg| leg.railway);
-        let shares: Vec<(u64, u64)> = railways.zip(*parts).collect();
-        for (railway, part) in &shares {
-            *self.owed.entry(*railway).or_default() += part;
+        for (railway, part) in shares(question, parts) {
+            *self.owed.entry(railway).or_default() += part;
         }
-        self.sales.insert(number, shares);
+        self.places.insert(number, self.sales.len());
+        self.sales.push(Entry {
+            till: number.0,
+            sequence: number.1,
+            question: question.with_unused_slots_zero(),
+            parts: *parts,
+            cancelled: false,
+        });
     }
 
     fn cancel(&mut self, number: Number) {
-        let shares = self.sales.get_mut(&number).map(mem::take);
-        for (railway, part) in shares.unwrap_or_default() {
+        let Some(&place) = self.places.get(&number) else {
+            return;
+        };
+        let sale = &mut self.sales[place];
+        if sale.cancelled {
+            return;
+        }
+        sale.cancelled = true;
+        for (railway, part) in shares(&sale.question, &sale.parts) {
             *self.owed.entry(railway).or_default() -= part;
         }
     }
 
     pub fn is_cancelled(&self, number: Number) -> bool {
-        self.sales.get(&number).is_some_and(Vec::is_empty)
+        let place = self.places.get(&number);
+        place.is_some_and(|&place| self.sales[place].cancelled)
+    }
+
+    /// In the order of their bookings.
+    pub fn cancelled(&self) -> Vec<Number> {
+        let cancelled = self.sales.iter().filter(|sale| sale.cancelled);
+        cancelled.map(|sale| (sale.till, sale.sequence)).collect()
+    }
+
+    /// What the history says to a call that only reads, and asks within the limits.
+    pub fn answer(&self, call: &Call) -> Option<Answer> {
+        let number = call.sale_number();
+        let railway = u64::from(call.railway);
+        match call.name {
+            Name::Total => Some(Answer::of_value(self.total())),
+            Name::Balance if is_railway(railway) => Some(Answer::of_value(self.balance(railway))),
+            Name::Count => Some(Answer::of_value(self.count())),
+            Name::Entry => Some(self.reading(usize::try_from(call.entry).ok())),
+            Name::Find if is_sale_number(number.0, number.1) => {
+                Some(self.reading(self.places.get(&number).copied()))
+            }
+            _ => None,
+        }
+    }
+
+    fn reading(&self, place: Option<usize>) -> Answer {
+        let sale = place.and_then(|place| Some((place, self.sales.get(place)?)));
+        match sale {
+            Some((place, sale)) => Answer::of_entry(place as u64, sale),
+            None => Answer::of_refusal(&Refusal::of_call(25)),
+        }
+    }
+
+    pub fn count(&self) -> u64 {
+        self.sales.len() as u64
     }
 
     /// Those ever booked, and those asked for.
@@ -78,13 +125,18 @@ impl Tally {
             .collect()
     }
 
-    pub fn balance(&self, railway: u64) -> u64 {
+    fn balance(&self, railway: u64) -> u64 {
         self.owed.get(&railway).copied().unwrap_or(0)
     }
 
-    pub fn total(&self) -> u64 {
+    fn total(&self) -> u64 {
         self.owed.values().sum()
     }
+}
+
+fn shares(question: &Question, parts: &Parts) -> Vec<(u64, u64)> {
+    let railways = question.used_legs().iter().map(|leg| leg.railway);
+    railways.zip(*parts).collect()
 }
 
 #[cfg(test)]
@@ -168,6 +220,47 @@ mod tests {
         assert_eq!(railways, [1181, 1182, 1185]);
     }
 
+    fn read(tally: &Tally, call: &Call) -> Answer {
+        tally.answer(call).unwrap()
+    }
+
+    #[test]
+    fn a_sale_is_told_as_first_booked_and_whether_it_was_cancelled_since() {
+        let mut tally = one_sale();
+        let mut filled = two_legs();
+        filled.legs[5].fare = 9;
+        tally.note(&Call::sale(7, 2, &filled), &newer_bundle());
+        let mut due = Entry {
+            till: 7,
+            sequence: 2,
+            question: two_legs(),
+            parts: [3030, 1500, 0, 0, 0, 0, 0, 0],
+            cancelled: false,
+        };
+        for call in [Call::entry(1), Call::find(7, 2)] {
+            assert_eq!(read(&tally, &call), Answer::of_entry(1, &due));
+        }
+        tally.note(&Call::sale(7, 2, &two_legs()), &bundle());
+        tally.note(&Call::cancel(7, 2), &[]);
+        tally.note(&Call::sale(7, 2, &two_legs()), &bundle());
+        due.cancelled = true;
+        assert_eq!(read(&tally, &Call::find(7, 2)), Answer::of_entry(1, &due));
+        assert_eq!(tally.cancelled(), [(7, 2)]);
+        assert_eq!(read(&tally, &Call::of(Name::Count)), Answer::of_value(2));
+    }
+
+    #[test]
+    fn what_was_never_booked_is_25_and_limits_are_not_the_historys() {
+        let tally = one_sale();
+        let unknown = Answer::of_refusal(&Refusal::of_call(25));
+        for call in [Call::entry(1), Call::entry(u64::MAX), Call::find(1, 2)] {
+            assert_eq!(read(&tally, &call), unknown);
+        }
+        for call in [Call::find(0, 1), Call::balance(0), Call::cancel(1, 1)] {
+            assert_eq!(tally.answer(&call), None);
+        }
+    }
+
     #[test]
     fn a_full_history_books_no_more() {
         let mut tally = Tally::default();
@@ -178,6 +271,7 @@ mod tests {
         tally.note(&Call::cancel(1, 256), &[]);
         tally.note(&sale(258), &bundle());
         assert_eq!(tally.total(), 255 * 3774);
+        assert_eq!(tally.count(), 256);
     }
 
     #[test]

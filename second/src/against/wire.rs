@@ -1,8 +1,12 @@
 //! Renders no section: requests and replies as the driver of the built library takes and gives them.
 
+use std::fmt;
 use std::io::{self, Read};
 
+use crate::book::Entry;
+use crate::fare::Parts;
 use crate::question::{Leg, Question, CARD_SLOTS, LEG_SLOTS};
+use crate::refusal::Refusal;
 
 #[derive(Clone, Copy, Debug, PartialEq, Eq, PartialOrd, Ord)]
 pub enum Name {
@@ -12,17 +16,25 @@ pub enum Name {
     Cancel,
     Balance,
     Total,
+    Count,
+    Entry,
+    Find,
 }
 
 impl Name {
-    pub const ALL: [Name; 6] = [
+    pub const ALL: [Name; 9] = [
         Name::Verdict,
         Name::Fare,
         Name::Sale,
         Name::Cancel,
         Name::Balance,
         Name::Total,
+        Name::Count,
+        Name::Entry,
+        Name::Find,
     ];
+
+    pub const READING_A_SALE: [Name; 2] = [Name::Entry, Name::Find];
 
     pub fn reads_book(self) -> bool {
         self >= Name::Sale
@@ -36,6 +48,9 @@ impl Name {
             Name::Cancel => "cancel",
             Name::Balance => "balance",
             Name::Total => "total",
+            Name::Count => "count",
+            Name::Entry => "entry",
+            Name::Find => "find",
         }
     }
 }
@@ -46,6 +61,7 @@ pub struct Call {
     pub name: Name,
     pub till: u32,
     pub sequence: u64,
+    pub entry: u64,
     pub railway: u32,
     pub question: Question,
 }
@@ -56,6 +72,7 @@ impl Call {
             name,
             till: 0,
             sequence: 0,
+            entry: 0,
             railway: 0,
             question: Question::default(),
         }
@@ -91,6 +108,25 @@ impl Call {
             railway: narrow(railway),
             ..Call::of(Name::Balance)
         }
+    }
+
+    pub fn entry(entry: u64) -> Call {
+        Call {
+            entry,
+            ..Call::of(Name::Entry)
+        }
+    }
+
+    pub fn find(till: u64, sequence: u64) -> Call {
+        Call {
+            till: narrow(till),
+            sequence,
+            ..Call::of(Name::Find)
+        }
+    }
+
+    pub fn sale_number(&self) -> (u64, u64) {
+        (u64::from(self.till), self.sequence)
     }
 }
 
@@ -168,6 +204,7 @@ pub fn encode(call: &Call, lent: &Lent, book_kept: bool) -> Vec<u8> {
     let mut bytes = Vec::new();
     for number in [
         call.sequence,
+        call.entry,
         lent.bundle.len() as u64,
         lent.bundle_more,
         lent.book.len() as u64,
@@ -213,16 +250,13 @@ impl Request {
 }
 
 pub fn decode(input: &mut impl Read) -> io::Result<Request> {
-    let sequence = read_u64(input)?;
+    let [sequence, entry] = [read_u64(input)?, read_u64(input)?];
     let [bundle_length, bundle_more] = [read_u64(input)?, read_u64(input)?];
     let [book_words, book_more] = [read_u64(input)?, read_u64(input)?];
     let name = read_u32(input)?;
     let [till, railway] = [read_u32(input)?, read_u32(input)?];
     let _book_kept = read_u32(input)?;
-    let mut numbers = [0; QUESTION_NUMBERS];
-    for number in &mut numbers {
-        *number = read_u32(input)?;
-    }
+    let question = read_question(input)?;
     let mut bundle = vec![0; bundle_length as usize];
     input.read_exact(&mut bundle)?;
     let book: io::Result<Vec<u32>> = (0..book_words).map(|_| read_u32(input)).collect();
@@ -235,8 +269,9 @@ pub fn decode(input: &mut impl Read) -> io::Result<Request> {
             name,
             till,
             sequence,
+            entry,
             railway,
-            question: question_of(&numbers),
+            question,
         },
         bundle,
         bundle_more,
@@ -251,11 +286,63 @@ pub struct Answer {
     pub number: u64,
     pub place: u64,
     pub detail: u64,
-    /// Records, fare or amount.
+    /// Records, fare, amount or count of entries.
     pub value: u64,
+    pub entry: u64,
+    pub sequence: u64,
     pub outcome: u32,
     pub cancelled: u32,
+    pub till: u32,
+    pub status: u32,
+    pub question: Question,
     pub parts: [u32; LEG_SLOTS],
+}
+
+impl Answer {
+    pub fn of_value(value: u64) -> Answer {
+        Answer {
+            value,
+            ..Answer::default()
+        }
+    }
+
+    pub fn of_refusal(refusal: &Refusal) -> Answer {
+        Answer {
+            number: u64::from(refusal.number),
+            place: refusal.place,
+            detail: refusal.detail,
+            ..Answer::default()
+        }
+    }
+
+    pub fn of_entry(place: u64, entry: &Entry) -> Answer {
+        Answer {
+            entry: place,
+            sequence: entry.sequence,
+            till: u32::try_from(entry.till).expect("a till within its limits"),
+            status: match entry.cancelled {
+                false => status::LIVE,
+                true => status::CANCELLED,
+            },
+            question: entry.question,
+            parts: words_of(&entry.parts),
+            ..Answer::default()
+        }
+    }
+}
+
+/// A value that is all there is to tell is told alone.
+impl fmt::Display for Answer {
+    fn fmt(&self, formatter: &mut fmt::Formatter) -> fmt::Result {
+        if *self == Answer::of_value(self.value) {
+            return self.value.fmt(formatter);
+        }
+        write!(formatter, "{self:?}")
+    }
+}
+
+pub fn words_of(parts: &Parts) -> [u32; LEG_SLOTS] {
+    parts.map(|part| u32::try_from(part).expect("a part within its bound"))
 }
 
 pub mod outcome {
@@ -263,6 +350,11 @@ pub mod outcome {
     pub const ALREADY_BOOKED: u32 = 2;
     pub const CANCELLED: u32 = 3;
     pub const ALREADY_CANCELLED: u32 = 4;
+}
+
+pub mod status {
+    pub const LIVE: u32 = 0;
+    pub const CANCELLED: u32 = 1;
 }
 
 #[derive(Clone, Debug, PartialEq, Eq)]
@@ -275,18 +367,7 @@ pub struct Reply {
 
 pub fn read_reply(input: &mut impl Read) -> io::Result<Reply> {
     let [finding, count] = [read_u32(input)?, read_u32(input)?];
-    let mut answer = Answer {
-        number: read_u64(input)?,
-        place: read_u64(input)?,
-        detail: read_u64(input)?,
-        value: read_u64(input)?,
-        outcome: read_u32(input)?,
-        cancelled: read_u32(input)?,
-        ..Answer::default()
-    };
-    for part in &mut answer.parts {
-        *part = read_u32(input)?;
-    }
+    let answer = read_answer(input)?;
     let changes: io::Result<Vec<(u32, u32)>> = (0..count)
         .map(|_| Ok((read_u32(input)?, read_u32(input)?)))
         .collect();
@@ -295,6 +376,35 @@ pub fn read_reply(input: &mut impl Read) -> io::Result<Reply> {
         answer,
         changes: changes?,
     })
+}
+
+fn read_answer(input: &mut impl Read) -> io::Result<Answer> {
+    let mut answer = Answer {
+        number: read_u64(input)?,
+        place: read_u64(input)?,
+        detail: read_u64(input)?,
+        value: read_u64(input)?,
+        entry: read_u64(input)?,
+        sequence: read_u64(input)?,
+        outcome: read_u32(input)?,
+        cancelled: read_u32(input)?,
+        till: read_u32(input)?,
+        status: read_u32(input)?,
+        question: read_question(input)?,
+        ..Answer::default()
+    };
+    for part in &mut answer.parts {
+        *part = read_u32(input)?;
+    }
+    Ok(answer)
+}
+
+fn read_question(input: &mut impl Read) -> io::Result<Question> {
+    let mut numbers = [0; QUESTION_NUMBERS];
+    for number in &mut numbers {
+        *number = read_u32(input)?;
+    }
+    Ok(question_of(&numbers))
 }
 
 fn read_u32(input: &mut impl Read) -> io::Result<u32> {
@@ -314,13 +424,17 @@ mod tests {
     use super::*;
     use crate::generate::questions::question;
     use crate::generate::random::Random;
+    use std::collections::BTreeSet;
 
     #[test]
     fn a_request_survives_its_bytes() {
         let mut random = Random::from_seed(71);
         for _ in 0..50 {
             let asked = question(&mut random, b"");
-            let call = Call::sale(random.draw(), random.draw(), &asked);
+            let call = Call {
+                entry: random.draw(),
+                ..Call::sale(random.draw(), random.draw(), &asked)
+            };
             let lent = Lent {
                 book_more: 3,
                 ..Lent::of(b"XX", &[1, 2, 3])
@@ -329,6 +443,35 @@ mod tests {
             assert_eq!(request.call, call);
             assert_eq!(request.lent(), lent);
         }
+    }
+
+    /// No byte of a reply's answer is passed over, nor told twice.
+    #[test]
+    fn each_byte_of_a_reply_makes_an_answer_of_its_own() {
+        let head = [0; 2 * 4];
+        let length = 6 * 8 + (4 + QUESTION_NUMBERS + LEG_SLOTS) * 4;
+        let answer_to = |set: Option<usize>| {
+            let mut bytes = [&head[..], &vec![0; length]].concat();
+            if let Some(place) = set {
+                bytes[head.len() + place] = 1;
+            }
+            let mut rest = &bytes[..];
+            let reply = read_reply(&mut rest).unwrap();
+            assert!(rest.is_empty());
+            format!("{:?}", reply.answer)
+        };
+        let answers: BTreeSet<String> = (0..length).map(|place| answer_to(Some(place))).collect();
+        assert_eq!(answers.len(), length);
+        assert!(!answers.contains(&answer_to(None)));
+    }
+
+    #[test]
+    fn a_value_alone_is_told_alone() {
+        assert_eq!(Answer::of_value(7).to_string(), "7");
+        let refused = Answer::of_refusal(&Refusal::of_call(25));
+        assert!(refused.to_string().contains("number: 25"));
+        let read = Answer::of_entry(3, &Entry::default());
+        assert!(read.to_string().contains("entry: 3"));
     }
 
     #[test]

@@ -1,6 +1,6 @@
 //! Renders "The sales book" as lent words: the codec and the calls on such a book.
 
-use super::{unsound, Book, Cancel, Entry, Sale, Sum, MOST_ENTRIES};
+use super::{unsound, Book, Cancel, Count, Entry, Reading, Sale, Sum, MOST_ENTRIES};
 use crate::fare::Question;
 use crate::question::LEG_SLOTS;
 
@@ -162,6 +162,27 @@ pub fn total(words: &[u32]) -> Sum {
     }
 }
 
+pub fn count(words: &[u32]) -> Count {
+    match book_of_words(words) {
+        Some(book) => book.count(),
+        None => Count::Refused(unsound()),
+    }
+}
+
+pub fn entry(words: &[u32], place: u64) -> Reading {
+    match book_of_words(words) {
+        Some(book) => book.entry(place),
+        None => Reading::Refused(unsound()),
+    }
+}
+
+pub fn find(words: &[u32], till: u64, sequence: u64) -> Reading {
+    match book_of_words(words) {
+        Some(book) => book.find(till, sequence),
+        None => Reading::Refused(unsound()),
+    }
+}
+
 fn write_back(words: &mut [u32], book: &Book) {
     words.copy_from_slice(&words_of_book(book).expect("a sound book fits its words"));
 }
@@ -244,6 +265,9 @@ mod tests {
             assert_eq!(cancel(&mut words, 0, 0), Cancel::Refused(refusal));
             assert_eq!(balance(&words, 0), Sum::Refused(refusal));
             assert_eq!(total(&words), Sum::Refused(refusal));
+            assert_eq!(count(&words), Count::Refused(refusal));
+            assert_eq!(entry(&words, u64::MAX), Reading::Refused(refusal));
+            assert_eq!(find(&words, 0, 0), Reading::Refused(refusal));
             assert_eq!(words, before);
         }
     }

@@ -80,6 +80,17 @@ pub fn sale_number(random: &mut Random) -> (u64, u64) {
     }
 }
 
+/// An entry that far behind another looks like it to an engine that cuts its place, or that of its words, to fewer bits.
+pub const POWERS_BEHIND: [u32; 6] = [8, 16, 26, 32, 58, 63];
+
+/// Places in a book of so many entries, at its end and far behind it.
+pub fn entry_places(random: &mut Random, count: u64) -> [u64; 8] {
+    let inside = random.below(count.max(1));
+    let far = (1 << random.pick(&POWERS_BEHIND)) + inside;
+    let last = count.saturating_sub(1);
+    [0, inside, last, count, 255, 256, far, u64::MAX]
+}
+
 #[derive(Clone, Copy, Debug, PartialEq, Eq)]
 pub enum BookDefect {
     NoWords,

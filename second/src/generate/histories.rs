@@ -1,14 +1,16 @@
 //! Renders "The sales book" as histories of calls, with repeats, cancels and full books.
 
-use super::books::{malformed_book, sale_number, sound_book_of};
+use super::books::{entry_places, malformed_book, sale_number, sound_book_of};
 use super::corpus::Corpus;
 use super::damage::{with_relation_fault, RelationFault};
 use super::questions::question;
 use super::random::Random;
 use super::resent::{changed, Sent};
 use super::valid::{valid_bundle, valid_bundle_with_cards};
-use crate::book::words::{balance, book_of_words, cancel, empty_book, sale, total, words_of_book};
-use crate::book::{Book, Cancel, Sale, Sum};
+use crate::book::words::{
+    balance, book_of_words, cancel, count, empty_book, entry, find, sale, total, words_of_book,
+};
+use crate::book::{Book, Cancel, Count, Reading, Sale, Sum};
 use crate::bundle::LONGEST_BUNDLE;
 use crate::question::LEG_SLOTS;
 
@@ -18,6 +20,9 @@ pub enum Step {
     Cancel { till: u64, sequence: u64 },
     Balance { railway: u64 },
     Total,
+    Count,
+    Entry { place: u64 },
+    Find { till: u64, sequence: u64 },
 }
 
 #[derive(Clone, Copy, Debug, PartialEq, Eq)]
@@ -25,6 +30,8 @@ pub enum Answer {
     Sale(Sale),
     Cancel(Cancel),
     Sum(Sum),
+    Count(Count),
+    Reading(Reading),
 }
 
 #[derive(Clone, Debug)]
@@ -46,6 +53,9 @@ pub fn perform(step: &Step, words: &mut [u32], bundles: &[Vec<u8>]) -> Answer {
         Step::Cancel { till, sequence } => Answer::Cancel(cancel(words, till, sequence)),
         Step::Balance { railway } => Answer::Sum(balance(words, railway)),
         Step::Total => Answer::Sum(total(words)),
+        Step::Count => Answer::Count(count(words)),
+        Step::Entry { place } => Answer::Reading(entry(words, place)),
+        Step::Find { till, sequence } => Answer::Reading(find(words, till, sequence)),
     }
 }
 
@@ -114,7 +124,7 @@ fn book_of_few_railways(random: &mut Random, count: usize) -> Book {
 }
 
 pub fn drawn_step(random: &mut Random, known: &Book, bundles: &[Vec<u8>]) -> Step {
-    match random.below(20) {
+    match random.below(22) {
         0..=6 => new_sale(random, bundles),
         7..=9 => repeated_sale(random, known, bundles),
         10 | 11 => changed_repeat(random, known, bundles),
@@ -124,7 +134,35 @@ pub fn drawn_step(random: &mut Random, known: &Book, bundles: &[Vec<u8>]) -> Ste
         16 | 17 => Step::Balance {
             railway: drawn_railway(random, known),
         },
-        _ => Step::Total,
+        18 | 19 => Step::Total,
+        _ => reading_step(random, known),
+    }
+}
+
+fn reading_step(random: &mut Random, known: &Book) -> Step {
+    match random.below(5) {
+        0 => Step::Count,
+        1 | 2 => {
+            let places = entry_places(random, known.entries.len() as u64);
+            let place = random.pick(&places);
+            Step::Entry { place }
+        }
+        _ => {
+            let (till, sequence) = number_to_find(random, known);
+            Step::Find { till, sequence }
+        }
+    }
+}
+
+fn number_to_find(random: &mut Random, known: &Book) -> (u64, u64) {
+    match random.below(5) {
+        0 => number_out_of_limits(random),
+        1 => sale_number(random),
+        _ if known.entries.is_empty() => sale_number(random),
+        _ => {
+            let entry = random.pick(&known.entries);
+            (entry.till, entry.sequence)
+        }
     }
 }
 
@@ -238,7 +276,9 @@ mod tests {
         match answer {
             Answer::Sale(Sale::Refused(refusal))
             | Answer::Cancel(Cancel::Refused(refusal))
-            | Answer::Sum(Sum::Refused(refusal)) => refusal.number,
+            | Answer::Sum(Sum::Refused(refusal))
+            | Answer::Count(Count::Refused(refusal))
+            | Answer::Reading(Reading::Refused(refusal)) => refusal.number,
             Answer::Sale(Sale::Booked { .. }) => 101,
             Answer::Sale(Sale::AlreadyBooked {
                 cancelled: false, ..
@@ -249,6 +289,8 @@ mod tests {
             Answer::Cancel(Cancel::Cancelled { .. }) => 104,
             Answer::Cancel(Cancel::AlreadyCancelled { .. }) => 105,
             Answer::Sum(Sum::Amount(_)) => 106,
+            Answer::Count(Count::Entries(_)) => 107,
+            Answer::Reading(Reading::Found { .. }) => 108,
         }
     }
 
@@ -273,7 +315,7 @@ mod tests {
             }
         }
         let calls = (11..=15).chain([17]).chain(21..=25);
-        for number in (1..=7).chain(calls).chain(101..=106) {
+        for number in (1..=7).chain(calls).chain(101..=108) {
             assert!(reached.contains(&number), "{number} in {reached:?}");
         }
     }
