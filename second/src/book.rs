@@ -52,9 +52,9 @@ pub enum Count {
     Refused(Refusal),
 }
 
-#[derive(Clone, Copy, Debug, PartialEq, Eq)]
+#[derive(Clone, Debug, PartialEq, Eq)]
 pub enum Reading {
-    Found { place: u64, entry: Entry },
+    Found { place: u64, entry: Box<Entry> },
     Refused(Refusal),
 }
 
@@ -204,7 +204,10 @@ impl Book {
 
     fn reading_at(&self, place: u64) -> Reading {
         match (0..).zip(&self.entries).find(|(own, _)| *own == place) {
-            Some((place, &entry)) => Reading::Found { place, entry },
+            Some((place, entry)) => Reading::Found {
+                place,
+                entry: Box::new(*entry),
+            },
             None => Reading::Refused(unknown()),
         }
     }
@@ -483,6 +486,7 @@ mod tests {
     }
 
     fn found(place: u64, entry: Entry) -> Reading {
+        let entry = Box::new(entry);
         Reading::Found { place, entry }
     }
 

@@ -25,7 +25,7 @@ pub enum Step {
     Find { till: u64, sequence: u64 },
 }
 
-#[derive(Clone, Copy, Debug, PartialEq, Eq)]
+#[derive(Clone, Debug, PartialEq, Eq)]
 pub enum Answer {
     Sale(Sale),
     Cancel(Cancel),
