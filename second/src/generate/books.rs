@@ -380,6 +380,18 @@ mod tests {
     }
 
     #[test]
+    fn entry_places_are_inside_at_the_end_and_far_behind() {
+        let mut random = Random::from_seed(54);
+        for count in [0, 1, 2, 255, 256] {
+            let places = entry_places(&mut random, count);
+            let [first, inside, last, behind, .., far, greatest] = places;
+            assert_eq!((first, behind, greatest), (0, count, u64::MAX));
+            assert!(count == 0 || (inside < count && last + 1 == count));
+            assert!(far >= 256);
+        }
+    }
+
+    #[test]
     fn each_defect_makes_a_book_unsound() {
         let mut random = Random::from_seed(52);
         for defect in BookDefect::all() {

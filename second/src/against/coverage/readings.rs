@@ -15,8 +15,10 @@ const JUST_BEHIND: &str = "just behind";
 const GREATEST: &str = "greatest";
 const FIND_TILL: &str = "find, till";
 const FIND_SEQUENCE: &str = "find, sequence";
+const FOUND_MIDWAY: &str = "found midway";
 const LIVE: &str = "live";
 const CANCELLED: &str = "cancelled";
+const UNKNOWN: &str = "unknown";
 const UNUSED_READ: &str = "unused legs read";
 const SENT_AS_ZEROS: &str = "sent as zeros";
 const SENT_FILLED: &str = "sent filled";
@@ -65,11 +67,7 @@ impl Coverage {
     }
 
     fn note_sale_read(&mut self, name: Name, answer: &Answer) {
-        let status = match answer.status {
-            status::LIVE => LIVE,
-            _ => CANCELLED,
-        };
-        self.meet(&read_by(name, "status"), status);
+        self.meet(&read_by(name, "status"), status_of(answer));
         let cards = answer.question.given_cards().len();
         self.meet(&read_by(name, "cards"), cards);
         self.meet(&read_by(name, "legs"), answer.question.leg_count);
@@ -79,6 +77,9 @@ impl Coverage {
     pub fn note_read_after(&mut self, step: &Call, done: &Answer, call: &Call, read: &Answer) {
         let after = outcome_of(done).unwrap_or(REFUSED);
         self.meet(&read_after(call.name), after);
+        if call.name == Name::Find {
+            self.meet(FOUND_MIDWAY, status_of(read));
+        }
         let is_of_the_step = (u64::from(read.till), read.sequence) == step.sale_number();
         if !is_of_the_step || done.outcome != outcome::BOOKED {
             return;
@@ -88,6 +89,15 @@ impl Coverage {
         } else if step.question.used_slots() < LEG_SLOTS {
             self.meet(UNUSED_READ, SENT_AS_ZEROS);
         }
+    }
+}
+
+fn status_of(answer: &Answer) -> &'static str {
+    match (answer.number, answer.status) {
+        (0, status::LIVE) => LIVE,
+        (0, _) => CANCELLED,
+        (25, _) => UNKNOWN,
+        _ => REFUSED,
     }
 }
 
@@ -124,6 +134,7 @@ pub fn groups() -> Vec<Group> {
         groups.push(group(&read_after(name), &OUTCOMES));
         groups.push(group(&read_after(name), &[REFUSED]));
     }
+    groups.push(group(FOUND_MIDWAY, &[LIVE, CANCELLED, UNKNOWN]));
     groups.push(group(UNUSED_READ, &[SENT_AS_ZEROS, SENT_FILLED]));
     groups
 }
@@ -192,7 +203,7 @@ mod tests {
     }
 
     #[test]
-    fn unused_legs_are_met_by_what_was_sent() {
+    fn a_reading_in_a_history_is_met_by_the_step_before_it_and_by_what_was_sent() {
         let booked = Answer {
             outcome: outcome::BOOKED,
             ..Answer::default()
@@ -203,9 +214,10 @@ mod tests {
         let other = Call::sale(1, 3, &read().question);
         let is_gap = gaps_after(|coverage| {
             coverage.note_read_after(&sale, &booked, &Call::entry(0), &read());
-            coverage.note_read_after(&other, &booked, &Call::entry(0), &read());
+            coverage.note_read_after(&other, &Answer::default(), &Call::find(1, 2), &read());
         });
         assert!(!is_gap("entry after: booked") && is_gap("find after: booked"));
+        assert!(!is_gap("found midway: cancelled") && is_gap("found midway: live"));
         assert!(!is_gap("unused legs read: sent filled"));
         assert!(is_gap("unused legs read: sent as zeros"));
     }
