@@ -29,7 +29,10 @@ use crate::question::{
 const CROWDED_ONE_IN: u64 = 8;
 const QUESTIONS_PER_BUNDLE: u64 = 12;
 const STEPS_PER_BOOK: u64 = 9;
+/// Enough for each way to read one.
 const BOOKS_PER_KIND: u64 = 4;
+/// One in so many books is read at the limits as well.
+const READ_ONE_IN: u64 = 3;
 const TILLS: [u64; 5] = [0, 1, 65_535, 65_536, u32::MAX as u64];
 const SEQUENCES: [u64; 5] = [0, 1, (1 << 32) - 1, 1 << 32, u64::MAX];
 const COUNTS: [u64; 4] = [0, 8, 9, u32::MAX as u64];
@@ -167,44 +170,43 @@ fn sound(bench: &mut Bench, random: &mut Random) -> io::Result<()> {
 fn lent_books(bench: &mut Bench, random: &mut Random, turn: u64) -> io::Result<()> {
     let kinds = kinds_of_malformed_books();
     let turn = turn as usize % (kinds.len() + CARD_SLOTS + 1);
-    for _ in 0..BOOKS_PER_KIND {
-        match kinds.get(turn) {
-            Some(kind) => malformed(bench, random, turn, kind)?,
-            None => at_the_bound(bench, random, turn - kinds.len())?,
+    let kind = kinds.get(turn);
+    let cards = turn.saturating_sub(kinds.len());
+    for nth in 0..BOOKS_PER_KIND {
+        let book = match kind {
+            Some(_) => malformed(random, turn),
+            None => at_the_bound(random, cards),
+        };
+        let total = each_call_on(bench, random, &book)?;
+        one_reading(bench, random, &book, nth)?;
+        match kind {
+            Some(kind) => bench.coverage.note_malformed(kind),
+            None => bench.coverage.note_at_the_bound(cards, &total),
         }
     }
     Ok(())
 }
 
-fn malformed(bench: &mut Bench, random: &mut Random, turn: usize, kind: &str) -> io::Result<()> {
+fn malformed(random: &mut Random, turn: usize) -> Vec<u32> {
     let defects = BookDefect::all();
-    let book = match defects.get(turn) {
+    match defects.get(turn) {
         Some(defect) => defect.example(random),
         None => book_of_length(random, WRONG_LENGTHS[turn - defects.len()]),
-    };
-    bench.coverage.note_malformed(kind);
-    each_call_on(bench, random, &book)?;
-    Ok(())
+    }
 }
 
-fn at_the_bound(bench: &mut Bench, random: &mut Random, cards: usize) -> io::Result<()> {
-    let book = words_of_book(&book_at_the_bound(random, cards));
-    let total = each_call_on(bench, random, &book.expect("a sound book fits its words"))?;
-    bench.coverage.note_at_the_bound(cards, &total);
-    Ok(())
+fn at_the_bound(random: &mut Random, cards: usize) -> Vec<u32> {
+    let book = book_at_the_bound(random, cards);
+    words_of_book(&book).expect("a sound book fits its words")
 }
 
-/// The answer to the last, which is the total.
+/// All calls but those that read sales. The answer to the last, which is the total.
 fn each_call_on(bench: &mut Bench, random: &mut Random, book: &[u32]) -> io::Result<Answer> {
     let bundle = valid_bundle(random);
     let (till, sequence) = known_or_drawn_number(random, book);
     let asked = question(random, &bundle);
-    let places = entry_places(random, entries_told(book));
     let lent = Lent::of(&bundle, book);
     for call in [
-        Call::of(Name::Count),
-        Call::entry(random.pick(&places)),
-        Call::find(till, sequence),
         Call::sale(till, sequence, &asked),
         Call::cancel(till, sequence),
         Call::balance(random.pick(&RAILWAYS)),
@@ -214,6 +216,17 @@ fn each_call_on(bench: &mut Bench, random: &mut Random, book: &[u32]) -> io::Res
     }
     let total = bench.ask_held(&Call::of(Name::Total), &lent, &[])?;
     Ok(total.second)
+}
+
+fn one_reading(bench: &mut Bench, random: &mut Random, book: &[u32], nth: u64) -> io::Result<()> {
+    let (till, sequence) = known_or_drawn_number(random, book);
+    let places = entry_places(random, entries_told(book));
+    let call = match nth % 3 {
+        0 => Call::of(Name::Count),
+        1 => Call::entry(random.pick(&places)),
+        _ => Call::find(till, sequence),
+    };
+    bench.ask(&call, &Lent::of(&[], book))
 }
 
 fn entries_told(book: &[u32]) -> u64 {
@@ -256,11 +269,13 @@ fn limits(bench: &mut Bench, random: &mut Random) -> io::Result<()> {
     bench.ask(&Call::fare(&most_asked(cards)), &lent)?;
     for till in TILLS {
         let sequence = random.pick(&SEQUENCES);
-        under_a_number(bench, &lent, (till, sequence), &asked)?;
+        bench.ask(&Call::sale(till, sequence, &asked), &lent)?;
+        bench.ask(&Call::cancel(till, sequence), &lent)?;
     }
     for sequence in SEQUENCES {
         let till = random.pick(&TILLS);
-        under_a_number(bench, &lent, (till, sequence), &asked)?;
+        bench.ask(&Call::sale(till, sequence, &asked), &lent)?;
+        bench.ask(&Call::cancel(till, sequence), &lent)?;
     }
     for count in COUNTS {
         asked.leg_count = count;
@@ -271,21 +286,26 @@ fn limits(bench: &mut Bench, random: &mut Random) -> io::Result<()> {
     for railway in RAILWAYS {
         bench.ask(&Call::balance(railway), &lent)?;
     }
-    for place in entry_places(random, entries_told(&book)) {
+    if random.one_in(READ_ONE_IN) {
+        limits_of_reading(bench, random, &book)?;
+    }
+    Ok(())
+}
+
+fn limits_of_reading(bench: &mut Bench, random: &mut Random, book: &[u32]) -> io::Result<()> {
+    let lent = Lent::of(&[], book);
+    for till in TILLS {
+        let sequence = random.pick(&SEQUENCES);
+        bench.ask(&Call::find(till, sequence), &lent)?;
+    }
+    for sequence in SEQUENCES {
+        let till = random.pick(&TILLS);
+        bench.ask(&Call::find(till, sequence), &lent)?;
+    }
+    for place in entry_places(random, entries_told(book)) {
         bench.ask(&Call::entry(place), &lent)?;
     }
     bench.ask(&Call::of(Name::Count), &lent)
-}
-
-fn under_a_number(
-    bench: &mut Bench,
-    lent: &Lent,
-    (till, sequence): (u64, u64),
-    asked: &Question,
-) -> io::Result<()> {
-    bench.ask(&Call::sale(till, sequence, asked), lent)?;
-    bench.ask(&Call::cancel(till, sequence), lent)?;
-    bench.ask(&Call::find(till, sequence), lent)
 }
 
 /// In rising rating.

@@ -21,7 +21,7 @@ const MIXED_STEPS: u64 = 44;
 const STEPS_OF_A_FULL_BOOK: u64 = 30;
 const STEPS_BEFORE_RESENDING: u64 = 6;
 /// So many sales and cancels come to one reading of the book.
-const STEPS_PER_READING: u64 = 2;
+const STEPS_PER_READING: u64 = 3;
 const MOST_READ_THROUGH: u64 = 16;
 
 pub fn run(bench: &mut Bench, random: &mut Random, turn: u64) -> io::Result<()> {
