@@ -9,13 +9,17 @@
 #include <stdlib.h>
 #include <string.h>
 #include <sys/mman.h>
+#include <unistd.h>
 
 #include "offers.h"
 
 enum call { VERDICT = 1, FARE, SALE, CANCEL, BALANCE, TOTAL, COUNT, ENTRY, FIND };
 enum end { BEHIND, BEFORE, ENDS };
 enum finding { FINE, ANSWERS_DIFFER, BOOKS_DIFFER, WRITTEN_BESIDE };
-enum { PAGE = 4096, CANARY = 0xA5 };
+enum { CANARY = 0xA5 };
+
+/* An Arm kernel may have pages of 4, 16 or 64 KiB. */
+static size_t page;
 
 /* After it come bundle_sent bytes and, unless the book is kept from the last reply, book_sent words; `more` counts zeros after them. */
 struct request {
@@ -65,13 +69,14 @@ struct room {
 
 static struct room make_room(size_t sent, size_t more) {
     struct room room = {.length = sent + more, .sent = sent};
-    room.size = room.length / PAGE * PAGE + (room.length % PAGE > 0 || room.length == 0 ? PAGE : 0);
-    uint8_t *all = must(mmap(NULL, room.size + 2 * PAGE, PROT_NONE, MAP_PRIVATE | MAP_ANONYMOUS | MAP_NORESERVE, -1, 0));
-    room.pages = all + PAGE;
+    room.size = room.length / page * page + (room.length % page > 0 || room.length == 0 ? page : 0);
+    int flags = MAP_PRIVATE | MAP_ANONYMOUS | MAP_NORESERVE;
+    uint8_t *all = must(mmap(NULL, room.size + 2 * page, PROT_NONE, flags, -1, 0));
+    room.pages = all + page;
     return room;
 }
 
-static void clear_room(struct room *room) { munmap(room->pages - PAGE, room->size + 2 * PAGE); }
+static void clear_room(struct room *room) { munmap(room->pages - page, room->size + 2 * page); }
 
 static void protect(const struct room *room, int protection) {
     if (mprotect(room->pages, room->size, protection) == 0) return;
@@ -287,6 +292,7 @@ static void choose_wrong(const char *kind, const char *request) {
 
 int main(int argc, char **argv) {
     if (argc == 4 && strcmp(argv[1], "--wrong") == 0) choose_wrong(argv[2], argv[3]);
+    page = (size_t)sysconf(_SC_PAGESIZE);
     keep(must(malloc(1)), 0);
     struct request request;
     while (fread(&request, sizeof request, 1, stdin) == 1) {
