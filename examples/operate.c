@@ -1,6 +1,6 @@
 /* A till and the office through all that happens to them in operation: docs/OPERATING.md has the rules. Everything is
  * kept in real files, in a folder that must be new.
- * Run by examples/run-operate, which also builds it. Usage: operate FOLDER BUNDLES
+ * Run by examples/run operate, which also builds it. Usage: operate FOLDER BUNDLES
  * BUNDLES is a folder with family.bundle, sample.bundle and cut-short.bundle, such as examples. */
 #define _POSIX_C_SOURCE 200809L
 #include "files.h"

@@ -1,6 +1,6 @@
 /* A till's work with one ticket of a family that shows two cards: sell it, lose the signal and send the sale again, cancel it, and send it
  * again by mistake.
- * Run by examples/run-sell, which also builds it. Usage: sell BUNDLE */
+ * Run by examples/run sell, which also builds it. Usage: sell BUNDLE */
 #include "../include/offers.h"
 
 #include <inttypes.h>
