@@ -1,4 +1,4 @@
--- Short names that contracts of inner functions and proofs use. Nothing here has to be believed: no contract of the engine's six calls and no promise reaches it.
+-- Short names that contracts of inner functions and proofs use. Nothing here has to be believed: no contract of the engine's calls and no promise reaches it.
 -- Assumes nothing.
 use Prim.Native.Nat.{ℕ, _+_, _*_, _≤_, _<_}
 use mathlib.Core.Bool.{Bool, cond, _&&_}
