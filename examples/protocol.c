@@ -5,14 +5,6 @@
 
 static settlement made;
 
-static const char *const OUTCOMES[] = {
-    [OFFERS_REFUSED] = "refused",
-    [OFFERS_BOOKED] = "booked",
-    [OFFERS_ALREADY_BOOKED] = "already booked",
-    [OFFERS_CANCELLED] = "cancelled",
-    [OFFERS_ALREADY_CANCELLED] = "already cancelled",
-};
-
 void title(const char *text) {
     static int step;
     printf("%s%d. %s\n", step == 0 ? "" : "\n", step + 1, text);
@@ -26,7 +18,7 @@ static void told_receipt(const char *start, unsigned book, const offers_receipt 
         return;
     }
     int is_late = receipt->outcome == OFFERS_ALREADY_BOOKED && receipt->cancelled;
-    line("%s %s%s in book-%04u, parts %" PRIu32 " and %" PRIu32, start, OUTCOMES[receipt->outcome],
+    line("%s %s%s in book-%04u, parts %" PRIu32 " and %" PRIu32, start, offers_outcome_text(receipt->outcome),
          is_late ? " and cancelled" : "", book, receipt->parts[0], receipt->parts[1]);
 }
 

@@ -24,17 +24,10 @@ enum { RAILCARD = 7, MEMBERS_CARD = 21 };
 /* The sale number: it names this sale for ever. Whatever is sent under it is booked once at most. */
 enum { TILL = 1, SEQUENCE = 1 };
 
-static const char *const OUTCOMES[] = {
-    [OFFERS_REFUSED] = "refused",
-    [OFFERS_BOOKED] = "booked",
-    [OFFERS_ALREADY_BOOKED] = "already booked",
-    [OFFERS_CANCELLED] = "cancelled",
-    [OFFERS_ALREADY_CANCELLED] = "already cancelled",
-};
-
 static void stop_if_refused(uint64_t number, uint64_t place, uint64_t detail) {
     if (number != OFFERS_ANSWERED) {
-        printf("refused: number %" PRIu64 ", place %" PRIu64 ", detail %" PRIu64 "\n", number, place, detail);
+        printf("refused: %s (number %" PRIu64 ", place %" PRIu64 ", detail %" PRIu64 ")\n", offers_text(number), number,
+               place, detail);
         exit(1);
     }
 }
@@ -66,7 +59,7 @@ static void show(const char *step, offers_receipt receipt) {
     stop_if_refused(receipt.number, receipt.place, receipt.detail);
     int changed = memcmp(book, book_before, sizeof book) != 0;
     memcpy(book_before, book, sizeof book);
-    printf("%s: %s%s, parts %" PRIu32 " and %" PRIu32 " cents\n", step, OUTCOMES[receipt.outcome],
+    printf("%s: %s%s, parts %" PRIu32 " and %" PRIu32 " cents\n", step, offers_outcome_text(receipt.outcome),
            receipt.outcome == OFFERS_ALREADY_BOOKED && receipt.cancelled ? " and cancelled" : "", receipt.parts[0], receipt.parts[1]);
     printf("    the book has %s; owed to %d: %" PRIu64 ", to %d: %" PRIu64 ", to all: %" PRIu64 "\n", changed ? "changed" : "not changed",
            NORTH, owed_to(NORTH), SOUTH, owed_to(SOUTH), owed_to_all());

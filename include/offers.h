@@ -90,6 +90,18 @@ enum offers_outcome {
     OFFERS_ALREADY_CANCELLED = 4
 };
 
+/* What came of it, in words. */
+static inline const char *offers_outcome_text(uint32_t outcome) {
+    switch (outcome) {
+    case OFFERS_REFUSED: return "refused";
+    case OFFERS_BOOKED: return "booked";
+    case OFFERS_ALREADY_BOOKED: return "already booked";
+    case OFFERS_CANCELLED: return "cancelled";
+    case OFFERS_ALREADY_CANCELLED: return "already cancelled";
+    default: return "an outcome that is not known here";
+    }
+}
+
 /* Whether a sale in a book is cancelled. */
 enum offers_status {
     OFFERS_LIVE = 0,

@@ -43,7 +43,7 @@ use Rattle.bundle.proofs.Meaning.{accepted-good, good-accepted}
 use Rattle.bundle.proofs.Faults.{refused-fault, fault-refused}
 use Rattle.bundle.proofs.Computed.{verdict-figures-hold}
 use Rattle.fares.specs.Rounding.{IsRounded}
-use Rattle.fares.specs.Fare.{partsOf, fareOf}
+use Rattle.fares.specs.Fare.{fareOf}
 use Rattle.fares.specs.Question.{between, cardSlots, cardsOf, cardsDiffer, inLimits}
 use Rattle.fares.specs.Reductions.{greater}
 use Rattle.fares.specs.Meaning.{cardAt, withCards, SameCards, InLimits, CardsDiffer, Applies, AllTogether, Permitted, After, AfterCards, LegFare, IsFare, NoFare}
