@@ -1,4 +1,4 @@
-//! Renders "Pricing": the records chosen for each leg, the parts and the fare.
+//! Renders "Pricing" and R-13: the records chosen for each leg, the parts, and the fare, which needs no limit.
 
 use std::collections::HashMap;
 
@@ -13,7 +13,6 @@ use crate::verdict::accepted_records;
 
 pub use crate::question::{Leg, Question, LEG_SLOTS};
 
-pub const LARGEST_FARE: u64 = 4_294_967_295;
 const MOST_ROUNDED_UP: u64 = 998;
 const EVERY_RAILWAY: u64 = 0;
 
@@ -79,9 +78,6 @@ pub fn priced_legs(bundle: &[u8], question: &Question) -> Result<Vec<PricedLeg>,
         let priced = price_leg(&tariff, question, leg)
             .map_err(|fault| Refusal::new(fault.number(), place as u64, fault.detail()))?;
         legs.push(priced);
-    }
-    if legs.iter().map(|leg| leg.part).sum::<u64>() > LARGEST_FARE {
-        return Err(Refusal::of_call(16));
     }
     Ok(legs)
 }
@@ -285,9 +281,12 @@ fn own_or_default<T>(railway: u64, find: impl Fn(u64) -> Option<T>) -> Option<(S
 #[cfg(test)]
 mod tests {
     use super::*;
+    use crate::generate::dearest::{costliest_offer, most_asked, GREATEST_PRICED};
     use crate::generate::drafts::{assemble, Draft};
     use crate::layout::{me, re};
-    use crate::question::asked;
+    use crate::question::{asked, CARD_SLOTS};
+
+    const LARGEST_FARE_BEFORE_R_13: u64 = 4_294_967_295;
 
     fn conditions(railway: &str) -> Draft {
         Draft::plain(Table::Co)
@@ -559,30 +558,33 @@ mod tests {
     }
 
     #[test]
-    fn the_greatest_part_stays_under_the_bound() {
-        let drafts = [
-            conditions("0000")
-                .with(33, "Y")
-                .with(40, "+")
-                .with(41, "998"),
-            card_type(),
-            card("0000")
-                .with(ar::DISCOUNT, "000000")
-                .with(9, "+")
-                .with(10, "997"),
-        ];
-        let part = total(&drafts, &asked(99, &[7], &[(1185, 999_999)]));
-        assert_eq!(part, 99_196_515);
-        assert!(part <= largest_part(1));
-        let eight = asked(99, &[7], &[(1185, 999_999); 8]);
-        assert_eq!(total(&drafts, &eight), 8 * part);
-    }
-
-    #[test]
     fn bounds_of_a_part() {
         let bounds = [99_197_505, 99_197_505, 99_296_307, 99_395_109, 99_493_911];
         for (cards, bound) in bounds.into_iter().enumerate() {
             assert_eq!(largest_part(cards), bound);
+        }
+    }
+
+    #[test]
+    fn eight_parts_at_the_bound_stay_within_the_former_limit() {
+        let eight_parts = |cards| LEG_SLOTS as u64 * largest_part(cards);
+        assert_eq!(eight_parts(1), 793_580_040);
+        assert_eq!(eight_parts(CARD_SLOTS), 795_951_288);
+        for cards in 0..=CARD_SLOTS {
+            assert!(eight_parts(cards) <= LARGEST_FARE_BEFORE_R_13);
+        }
+    }
+
+    #[test]
+    fn the_dearest_tickets_are_priced_from_parts_within_the_bound() {
+        for (cards, greatest) in GREATEST_PRICED.into_iter().enumerate() {
+            let parts = [greatest / LEG_SLOTS as u64; LEG_SLOTS];
+            let total = parts.iter().sum();
+            let told = fare(&costliest_offer(), &most_asked(cards));
+            assert_eq!(told, Fare::Priced { parts, total });
+            assert_eq!(total, greatest);
+            assert!(total < LARGEST_FARE_BEFORE_R_13);
+            assert!(parts[0] <= largest_part(cards));
         }
     }
 

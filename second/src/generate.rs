@@ -6,6 +6,7 @@ pub mod cards;
 pub mod corpus;
 pub mod crowded;
 pub mod damage;
+pub mod dearest;
 pub mod drafts;
 pub mod histories;
 pub mod questions;

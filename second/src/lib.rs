@@ -1,4 +1,4 @@
-//! Independent second program, rendering document 01 as a whole and R-1 of document 02, one module per section or request.
+//! Independent second program: document 01 as of document 02 leave it, by section and by request.
 
 pub mod against;
 pub mod book;

@@ -4,7 +4,7 @@ use Prim.Native.Nat.{ℕ, zero, suc, _+_, _≤_, _<_, suc-le-suc}
 use mathlib.Core.Path.{_≡_, refl, sym, _∙_, ap}
 use mathlib.Core.Bool.{Bool, true, false, cond}
 use mathlib.Core.Logic.{_⊎_, inl, inr, ⊎-elim}
-use mathlib.Core.List.{List, [], _∷_, _++_, append-assoc}
+use mathlib.Core.List.{List, [], _∷_, _++_}
 use native.Mathlib.Nat.{add-zero, le-of-suc-le-suc}
 use native.Mathlib.Omega.{arith}
 use native.Mathlib.Numerals.{add-one}
@@ -43,16 +43,16 @@ fault-append (c ∷ a) b = go (c .fails) (fault-append a b)
     go false h = h
 
 module _ {A : Type 0} (f : ℕ → A → List Check) where
-  -- the checks of the element that is counted i, then those of the rest, and what comes last
-  pub each-step : (xs : List A) (i : ℕ) (d : A) (last : List Check) → i < length xs
-      → firstFault (eachFrom i f (drop i xs) ++ last) ≡ orElse (firstFault (f i (getD xs i d))) (firstFault (eachFrom (i + 1) f (drop (i + 1) xs) ++ last))
+  -- the checks of the element that is counted i, then those of the rest
+  pub each-step : (xs : List A) (i : ℕ) (d : A) → i < length xs
+      → firstFault (eachFrom i f (drop i xs)) ≡ orElse (firstFault (f i (getD xs i d))) (firstFault (eachFrom (i + 1) f (drop (i + 1) xs)))
   unfolding eachFrom
-  each-step xs i d last h =
+  each-step xs i d h =
       let e : drop i xs ≡ getD xs i d ∷ drop (i + 1) xs = rw (add-one, drop-cons xs i d h) in
-      rw (e, append-assoc) (fault-append (f i (getD xs i d)) (eachFrom (i + 1) f (drop (i + 1) xs) ++ last))
+      rw e (fault-append (f i (getD xs i d)) (eachFrom (i + 1) f (drop (i + 1) xs)))
 
-  pub each-end : (xs : List A) (i : ℕ) → length xs ≤ i → eachFrom i f (drop i xs) ≡ []
-  unfolding eachFrom
+  pub each-end : (xs : List A) (i : ℕ) → length xs ≤ i → firstFault (eachFrom i f (drop i xs)) ≡ clean
+  unfolding eachFrom firstFault
   each-end xs i h = rw (drop-of-length-le xs h)
 
 -- WHAT IT MEANS: nothing is found exactly if every check passes,

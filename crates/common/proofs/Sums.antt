@@ -1,6 +1,6 @@
 -- Sums, a list that is filled from the front with zeros behind, and f 0, f 1, .., f (n - 1) as a list.
 -- Assumes nothing.
-use Prim.Native.Nat.{ℕ, zero, suc, _+_, _-_, _*_, _≤_, _<_}
+use Prim.Native.Nat.{ℕ, zero, suc, _+_, _-_, _*_, _≤_, _<_, suc-le-suc}
 use mathlib.Core.Path.{_≡_, refl, sym, _∙_, ap}
 use mathlib.Core.Bool.{Bool, true, false, cond, _&&_}
 use mathlib.Core.Logic.{_⊎_, inl, inr}
@@ -10,11 +10,11 @@ use native.Mathlib.Numerals.{add-one}
 use native.Mathlib.Omega.{arith}
 use lib.Dec.{eqb}
 use lib.ListN.{length, take, getD, set, replicate, length-map, length-take}
-use lib.Seq.{set-at, take-suc}
+use lib.Seq.{set-at, take-suc, getD-take}
 use borrow.Author.Tests.{eq-eqb, ne-eqb, eqb-true}
 use Rattle.common.specs.Lists.{sum, every, upTo}
 use Rattle.common.proofs.Tests.{never, side}
-use Rattle.common.proofs.Lists.{upto-same}
+use Rattle.common.proofs.Lists.{upto-length, upto-at, upto-same}
 
 pub sum-append : (a b : List ℕ) → sum (a ++ b) ≡ sum a + sum b
 unfolding sum
@@ -45,20 +45,26 @@ module _ {A : Type 0} (f : A → ℕ) (xs : List A) (k : ℕ) (d : A) (l : k < l
       let w : length (map f (take k xs)) ≡ k = rw (length-map, length-take) (omega arith) in
       rw (z, map-next, append-assoc) (set-at (map f (take k xs)) 0 (replicate (n - (k + 1)) 0) (f (getD xs k d)) k w)
 
--- each of the first k at most b, and so all of them at most k times b
-pub sum-small : {A : Type 0} (f : A → ℕ) (xs : List A) (d : A) (b k : ℕ) → k ≤ length xs → ((j : ℕ) → j < k → f (getD xs j d) ≤ b)
-    → sum (map f (take k xs)) ≤ k * b
-unfolding sum
-sum-small f xs d b zero l h = omega arith
-sum-small f xs d b (suc k) l h =
-    let e : sum (map f (take (suc k) xs)) ≡ sum (map f (take k xs)) + f (getD xs k d) = rw (← add-one) (sum-next f xs k d l) in
-    omega (arith, e, h k (omega arith), sum-small f xs d b k (omega arith) (λ j g. h j (omega arith)), suc-mul k b)
-
 -- an element of what a function made of a list
 pub map-at : {A B : Type 0} (f : A → B) (xs : List A) (k : ℕ) (z : B) (d : A) → k < length xs → getD (map f xs) k z ≡ f (getD xs k d)
 map-at f [] k z d l = absurd (omega arith)
 map-at f (x ∷ xs) zero z d l = refl
 map-at f (x ∷ xs) (suc k) z d l = map-at f xs k z d (omega arith)
+
+-- EACH OF n NUMBERS AT MOST b, and so their sum at most n times b:
+pub sum-bounded : (xs : List ℕ) (b : ℕ) → ((k : ℕ) → k < length xs → getD xs k 0 ≤ b) → sum xs ≤ length xs * b
+unfolding sum
+sum-bounded [] b h = omega arith
+sum-bounded (x ∷ xs) b h = omega (arith, h 0 (omega arith), sum-bounded xs b (λ k l. h (suc k) (suc-le-suc l)), suc-mul (length xs) b)
+
+-- what a function made of the first k of a list,
+pub sum-small : {A : Type 0} (f : A → ℕ) (xs : List A) (d : A) (b k : ℕ) → k ≤ length xs → ((j : ℕ) → j < k → f (getD xs j d) ≤ b)
+    → sum (map f (take k xs)) ≤ k * b
+sum-small f xs d b k l h =
+    let n : length (take k xs) ≡ k = rw length-take (omega arith) in
+    let e : length (map f (take k xs)) ≡ k = length-map (take k xs) f ∙ n in
+    rw e at (sum-bounded (map f (take k xs)) b
+    (λ j m. let i : j < k = omega (arith, e) in rw (map-at f (take k xs) j 0 d (omega (arith, n)), getD-take k xs j d i) (h j i)))
 
 -- THE SUM of f 0, .., f (n - 1): one more,
 pub sum-up : (f : ℕ → ℕ) (k : ℕ) → sum (upTo f (k + 1)) ≡ sum (upTo f k) + f k
@@ -67,16 +73,9 @@ sum-up f k = rw add-one (omega (arith, sum-append (upTo f k) (f k ∷ [])))
 
 -- and each of them at most b.
 pub sum-up-small : (f : ℕ → ℕ) (b k : ℕ) → ((j : ℕ) → j < k → f j ≤ b) → sum (upTo f k) ≤ k * b
-unfolding sum upTo
-sum-up-small f b zero h = omega arith
-sum-up-small f b (suc k) h =
-    omega (
-      arith,
-      sum-append (upTo f k) (f k ∷ []),
-      sum-up-small f b k (λ j l. h j (omega arith)),
-      h k (omega arith),
-      suc-mul k b,
-    )
+sum-up-small f b k h =
+    let n = upto-length f k in
+    rw n at (sum-bounded (upTo f k) b (λ j m. let i : j < k = omega (arith, n) in rw (upto-at f k j 0 i) (h j i)))
 
 -- a sum is zero exactly if each of its words is
 zero-by : (x n : ℕ) (b : Bool) → eqb x 0 ≡ b → eqb (x + n) 0 ≡ (b && eqb n 0)

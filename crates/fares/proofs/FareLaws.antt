@@ -18,13 +18,13 @@ use Rattle.bundle.specs.Verdict.{checks, verdictOf}
 use Rattle.bundle.specs.declared.Judgement.the-variants as verdict
 use Rattle.bundle.proofs.PassLaws.{is-fault, is-clean}
 use Rattle.fares.specs.Question.{noLeg, legsOf, cardsOf, inLimits}
-use Rattle.fares.specs.Reductions.{partBound}
+use Rattle.fares.specs.Reductions.{partBound, greatestPart}
 use Rattle.fares.specs.Legs.{partOf}
 use Rattle.fares.specs.Fare.{priceChecks, fareChecks, noFare, fareOf}
 use Rattle.fares.specs.Helpers.{priceOf}
 use Rattle.fares.specs.declared.Question.{Question}
 use Rattle.fares.proofs.QuestionLimits.{limits-mean}
-use Rattle.fares.proofs.LegLaws.{mostBound, bound-most, leg-small}
+use Rattle.fares.proofs.LegLaws.{bound-most, leg-small}
 
 -- what the limits say of the numbers that are computed with
 pub record Asked (q : Question) : Type 0 where
@@ -48,8 +48,8 @@ module _ (R : List Rec) (q : Question) (a : Asked q) where
   pub part-small : (k : ℕ) → k < length (legsOf q) → partOf R q (getD (legsOf q) k noLeg) ≤ partBound (length (cardsOf q))
   part-small k l = leg-small R q (getD (legsOf q) k noLeg) (a .fares k l) (a .persons)
 
-  pub sum-of-parts : (k : ℕ) → k ≤ length (legsOf q) → sum (map (partOf R q) (take k (legsOf q))) ≤ k * mostBound
-  sum-of-parts k l = sum-small (partOf R q) (legsOf q) noLeg mostBound k l (λ j h. le-trans (part-small j (omega arith)) (bound-most q))
+  pub sum-of-parts : (k : ℕ) → k ≤ length (legsOf q) → sum (map (partOf R q) (take k (legsOf q))) ≤ k * greatestPart
+  sum-of-parts k l = sum-small (partOf R q) (legsOf q) noLeg greatestPart k l (λ j h. le-trans (part-small j (omega arith)) (bound-most q))
 
 -- the verdict comes first
 module _ (s : List ℕ) (q : Question) where

@@ -24,7 +24,7 @@ use Rattle.bundle.specs.declared.choice.Choice.the-variants.{At, NotThatDay, No
 use Rattle.bundle.proofs.Here.{at-place}
 use Rattle.bundle.proofs.ChoiceLaws.{is-nothing, is-off-day, choice-inside}
 use Rattle.fares.specs.Question.{isGiven, cardSlots, cardsOf}
-use Rattle.fares.specs.Reductions.{conditionsGrant, reduceBy, partBound}
+use Rattle.fares.specs.Reductions.{conditionsGrant, reduceBy, partBound, greatestPart}
 use Rattle.fares.specs.Cards.{afterCards}
 use Rattle.fares.specs.Legs.{wantedFor, conditionsFor, found, bodies, bodyOf, cardFor, cardsFor, appliedFor, legChecks, partBy, partOf}
 use Rattle.fares.specs.Helpers.{padded, placeOf, bodiesAt, cardsBy, placesIn, answerOf, answerBy}
@@ -34,14 +34,11 @@ use Rattle.fares.specs.declared.records.Cards.{Cards}
 use Rattle.fares.proofs.StepLaws.{conditions-small, step-small, greater-is, bound-grows, part-small}
 use Rattle.fares.proofs.LegCards.{padded-front, padded-next, after-small}
 
--- four cards have the greatest bound
-abbrev pub mostBound : ℕ
-mostBound = partBound 4
-
+-- no question's bound is above the greatest
 few-cards : (q : Question) → length (cardsOf q) ≤ 4
 few-cards q = omega (arith, only-few isGiven (cardSlots q), first-length 0 4 (q .cards))
 
-pub bound-most : (q : Question) → partBound (length (cardsOf q)) ≤ mostBound
+pub bound-most : (q : Question) → partBound (length (cardsOf q)) ≤ greatestPart
 bound-most q = bound-grows (length (cardsOf q)) 4 (few-cards q)
 
 -- THE BOUND on a leg's part: a step for the CO, and one at most for each card

@@ -1,24 +1,23 @@
 -- WHAT A FARE MEANS: it is answered with a part for each leg, as the records say, and their sum; or refused by the bundle, the question or a leg. Both are
--- proved both ways, and number 16 is never met.
+-- proved both ways. And no part and no fare is above its bound.
 -- Assumes nothing.
 use Prim.Native.Nat.{ℕ, zero, suc, _+_, _-_, _*_, _≤_, _<_}
 use mathlib.Core.Path.{_≡_, refl, sym, _∙_, ap}
 use mathlib.Core.Bool.{true, false, not}
 use mathlib.Core.List.{List, [], _∷_, _++_, map}
 use mathlib.Core.Logic.{⊎-elim}
-use native.Mathlib.Nat.{mul-le-mul-right, zero-add, le-of-suc-le-suc, not-suc-le-zero}
+use native.Mathlib.Nat.{mul-le-mul-left, le-trans, zero-add, le-of-suc-le-suc, not-suc-le-zero}
 use native.Mathlib.Omega.{arith}
-use lib.Dec.{ltb}
-use lib.ListN.{length, getD, take, replicate, length-map, length-append, length-replicate, List·getD-append}
-use lib.Seq.{take-all, ext-getD}
-use borrow.Author.Tests.{le-ltb, not-true, not-false}
+use lib.ListN.{length, getD, replicate, length-map, length-append, length-replicate, List·getD-append}
+use lib.Seq.{ext-getD}
+use borrow.Author.Tests.{not-true, not-false}
 use Rattle.common.specs.Lists.{sum}
 use Rattle.common.specs.Checks.{refuse, clean, fault, Check, check, firstFault, eachFrom}
 use Rattle.common.specs.declared.Refusal.{Refusal}
 use Rattle.common.proofs.Tests.{never, refuted, side}
 use Rattle.common.proofs.Lists.{first-length, first-at}
-use Rattle.common.proofs.Sums.{sum-padded, map-at}
-use Rattle.common.proofs.Checks.{by-finding, one-clean, clean-one, append-clean, clean-append, each-clean, clean-each, one-fault, last-fault, append-fault, no-fault, fault-append, each-fault, fault-each}
+use Rattle.common.proofs.Sums.{map-at, sum-bounded}
+use Rattle.common.proofs.Checks.{by-finding, one-clean, clean-one, append-clean, clean-append, each-clean, clean-each, one-fault, append-fault, no-fault, fault-append, each-fault, fault-each}
 use Rattle.bundle.specs.Records.{Rec, recordsOf, restOf}
 use Rattle.bundle.specs.Verdict.{checks, verdictOf}
 use Rattle.bundle.specs.Meaning.{Good}
@@ -28,15 +27,14 @@ use Rattle.bundle.proofs.CutAndJoin.{cut-only}
 use Rattle.bundle.proofs.Meaning.{accepted-good, good-accepted, recut}
 use Rattle.bundle.proofs.Faults.{fault-means, means-fault}
 use Rattle.fares.specs.Question.{noLeg, legsOf, cardSlots, cardsOf, cardsDiffer, inLimits}
-use Rattle.fares.specs.Reductions.{partBound}
+use Rattle.fares.specs.Reductions.{partBound, greatestFare}
 use Rattle.fares.specs.Legs.{legChecks, partOf}
-use Rattle.fares.specs.Fare.{partsOf, mostFare, priceChecks, fareChecks, noFare, priced, fareOf}
+use Rattle.fares.specs.Fare.{partsOf, priceChecks, fareChecks, noFare, priced, fareOf}
 use Rattle.fares.specs.Meaning.{legAt, InLimits, CardsDiffer, LegFare, IsFare, NoFare, faulty, outside-limits, card-twice, at-leg}
 use Rattle.fares.specs.declared.Question.{Question}
 use Rattle.fares.specs.declared.Quote.{Quote}
 use Rattle.fares.specs.declared.Pricing.the-variants.{Priced}
-use Rattle.fares.proofs.LegLaws.{mostBound, leg-small}
-use Rattle.fares.proofs.FareLaws.{asked, sum-of-parts}
+use Rattle.fares.proofs.LegLaws.{bound-most, leg-small}
 use Rattle.fares.proofs.CardSlots.{differ-means, means-differ}
 use Rattle.fares.proofs.QuestionLimits.{limits-mean, means-limits}
 use Rattle.fares.proofs.LegMeaning.{leg-means, means-turned, means-priced}
@@ -76,17 +74,6 @@ module _ (R : List Rec) (q : Question) where
   unfolding partsOf
   eight-parts l = length-append own (replicate (8 - q .count) 0) ∙ omega (arith, own-length, length-replicate {A = ℕ} (8 - q .count) 0)
 
-  -- NUMBER 16 is never met: eight parts stay far below its limit
-  pub never-sixteen : inLimits q ≡ true → ltb mostFare (sum (partsOf R q)) ≡ false
-  unfolding partsOf
-  never-sixteen e =
-      let a = asked q e in
-      let L = legsOf q in
-      let t : take (q .count) L ≡ L = take-all (q .count) L (omega (arith, as-many)) in
-      let b : sum (map (partOf R q) L) ≤ q .count * mostBound = rw t at (sum-of-parts R q a (q .count) (omega (arith, as-many))) in
-      let p = sum-padded (map (partOf R q) L) (8 - q .count) in
-      le-ltb mostFare (sum (map (partOf R q) L ++ replicate (8 - q .count) 0)) (omega (arith, mul-le-mul-right mostBound (a .few)))
-
 module _ (s : List ℕ) (q : Question) where
   abbrev R : List Rec
   R = recordsOf s
@@ -100,15 +87,12 @@ module _ (s : List ℕ) (q : Question) where
   unfolding verdictOf
   good-clean g = is-clean (firstFault (checks s)) (length R) (length R) (good-accepted s R g) .0
 
-  -- then the question, the legs, and 16
+  -- then the question and the legs
   abbrev cards : Check
   cards = check (not (cardsDiffer (cardSlots q))) 17 0 0
 
   abbrev legFaults : List Check
   legFaults = eachFrom 0 (legChecks R q) (legsOf q)
-
-  abbrev last : List Check
-  last = check (ltb mostFare (sum (partsOf R q))) 16 0 0 ∷ []
 
   -- A FARE IS ANSWERED where nothing fails,
   answered : {fare : ℕ} {parts : List ℕ} → fareOf s q ≡ record { outcome = Priced; fare = fare; parts = parts }
@@ -124,16 +108,16 @@ module _ (s : List ℕ) (q : Question) where
     unfolding fareChecks
     passes = append-clean (checks s) (priceChecks R q) c
 
-    in-limits : (inLimits q ≡ true) × (cardsDiffer (cardSlots q) ≡ true) × (firstFault (legFaults ++ last) ≡ clean)
+    in-limits : (inLimits q ≡ true) × (cardsDiffer (cardSlots q) ≡ true) × (firstFault legFaults ≡ clean)
     unfolding priceChecks
     in-limits =
-        let b = one-clean (not (inLimits q)) 11 0 0 (cards ∷ (legFaults ++ last)) (passes .1) in
-        let d = one-clean (not (cardsDiffer (cardSlots q))) 17 0 0 (legFaults ++ last) (b .1) in
+        let b = one-clean (not (inLimits q)) 11 0 0 (cards ∷ legFaults) (passes .1) in
+        let d = one-clean (not (cardsDiffer (cardSlots q))) 17 0 0 legFaults (b .1) in
         (not-false (inLimits q) (b .0), not-false (cardsDiffer (cardSlots q)) (d .0), d .1)
 
     leg-priced : (k : ℕ) → k < q .count → LegFare R q (legAt q k) (getD (partsOf R q) k 0)
     leg-priced k l =
-        let e = each-clean (legChecks R q) noLeg 0 (legsOf q) (append-clean legFaults last (in-limits .2) .0) k (omega (arith, as-many R q)) in
+        let e = each-clean (legChecks R q) noLeg 0 (legsOf q) (in-limits .2) k (omega (arith, as-many R q)) in
         let f : firstFault (legChecks R q (0 + k) (legAt q k)) ≡ clean = rw (leg-is R q k l) at e in
         rw (part-of-leg R q k l)
         (⊎-elim (λ h. h .1) (λ h. no-fault f (h .2)) (leg-means s R (clean-good (passes .0)) q (legAt q k) (0 + k) (differ-means q (in-limits .1))))
@@ -183,19 +167,18 @@ module _ (s : List ℕ) (q : Question) where
           let f : firstFault (legChecks R q (0 + j) (legAt q j)) ≡ clean = rw (leg-is R q j (omega arith)) at (h j l) in
           ⊎-elim (λ c. (partOf R q (legAt q j), c .1)) (λ c. no-fault f (c .2)) (leg-means s R g q (legAt q j) (0 + j) d)
 
-  by-cards : Good s R → inLimits q ≡ true → (why : Refusal) → firstFault (cards ∷ (legFaults ++ last)) ≡ fault why → Told why
+  by-cards : Good s R → inLimits q ≡ true → (why : Refusal) → firstFault (cards ∷ legFaults) ≡ fault why → Told why
   by-cards g t why e =
       ⊎-elim (λ b. rw (← b .1) (card-twice g (limits-mean q t) (λ d. never (means-differ q d) (not-true (cardsDiffer (cardSlots q)) (b .0)))))
-      (λ b. let d = differ-means q (not-false (cardsDiffer (cardSlots q)) (b .0)) in
-      ⊎-elim (λ f. by-leg g (limits-mean q t) d why f) (λ f. never (last-fault _ 16 0 0 (f .1) .0) (never-sixteen R q t)) (append-fault legFaults last (b .1)))
-      (one-fault (not (cardsDiffer (cardSlots q))) 17 0 0 (legFaults ++ last) e)
+      (λ b. by-leg g (limits-mean q t) (differ-means q (not-false (cardsDiffer (cardSlots q)) (b .0))) why (b .1))
+      (one-fault (not (cardsDiffer (cardSlots q))) 17 0 0 legFaults e)
 
   by-price : Good s R → (why : Refusal) → firstFault (priceChecks R q) ≡ fault why → Told why
   unfolding priceChecks
   by-price g why e =
       ⊎-elim (λ b. rw (← b .1) (outside-limits g (λ l. never (means-limits q l) (not-true (inLimits q) (b .0)))))
       (λ b. by-cards g (not-false (inLimits q) (b .0)) why (b .1))
-      (one-fault (not (inLimits q)) 11 0 0 (cards ∷ (legFaults ++ last)) e)
+      (one-fault (not (inLimits q)) 11 0 0 (cards ∷ legFaults) e)
 
   -- with what that means;
   pub no-fare-means : (why : Refusal) → fareOf s q ≡ noFare why → Told why
@@ -216,19 +199,13 @@ module _ (s : List ℕ) (q : Question) where
       → (k : ℕ) → k < n → firstFault (legChecks R q (0 + k) (getD (legsOf q) k noLeg)) ≡ clean
   legs-clean g d n m h k l = rw (leg-is R q k (omega arith)) (let p = h k l in means-priced s R g q (legAt q k) (0 + k) d (p .0) (p .1) .0)
 
-  nothing-fails : firstFault [] ≡ clean
-  unfolding firstFault
-  nothing-fails = refl
-
   all-clean : Good s R → InLimits q → CardsDiffer q → ((k : ℕ) → k < q .count → (part : ℕ) × LegFare R q (legAt q k) part) → firstFault (fareChecks s q) ≡ clean
   unfolding fareChecks priceChecks
   all-clean g l d h =
       clean-append (checks s) (priceChecks R q) (good-clean g)
-      (clean-one (not (inLimits q)) 11 0 0 (cards ∷ (legFaults ++ last)) (rw (means-limits q l))
-      (clean-one (not (cardsDiffer (cardSlots q))) 17 0 0 (legFaults ++ last) (rw (means-differ q d))
-      (clean-append legFaults last
-      (clean-each (legChecks R q) noLeg 0 (legsOf q) (λ k m. legs-clean g d (q .count) (omega arith) h k (omega (arith, as-many R q))))
-      (clean-one _ 16 0 0 [] (never-sixteen R q (means-limits q l)) nothing-fails))))
+      (clean-one (not (inLimits q)) 11 0 0 (cards ∷ legFaults) (rw (means-limits q l))
+      (clean-one (not (cardsDiffer (cardSlots q))) 17 0 0 legFaults (rw (means-differ q d))
+      (clean-each (legChecks R q) noLeg 0 (legsOf q) (λ k m. legs-clean g d (q .count) (omega arith) h k (omega (arith, as-many R q))))))
 
   answered-by : (fare : ℕ) (parts : List ℕ) → IsFare s R q fare parts → fareOf s q ≡ record { outcome = Priced; fare = fare; parts = parts }
   answered-by fare parts f =
@@ -255,14 +232,13 @@ module _ (s : List ℕ) (q : Question) where
       fault-refused (refuse n k f)
       (fault-append (checks s) (priceChecks R q)
       ∙ rw (good-clean g, means-limits q l, means-differ q c)
-      (fault-append legFaults last
-      ∙ rw (fault-each (legChecks R q) noLeg 0 (legsOf q) (refuse n k f)
+      (fault-each (legChecks R q) noLeg 0 (legsOf q) (refuse n k f)
       (record {
         at = k;
         inside = omega (arith, as-many R q);
         fails = rw (leg-is R q k m, zero-add) (means-turned s R g q (legAt q k) k n f t);
         earlier-clean = legs-clean g c k (omega arith) h;
-      }))))
+      })))
 
 pub means-fare : (s : List ℕ) (R : List Rec) (q : Question) (fare : ℕ) (parts : List ℕ) → IsFare s R q fare parts
     → fareOf s q ≡ record { outcome = Priced; fare = fare; parts = parts }
@@ -272,9 +248,16 @@ pub means-no-fare : (s : List ℕ) (R : List Rec) (rest : List ℕ) → Cut s R 
     → fareOf s q ≡ noFare (refuse n p d)
 means-no-fare s R rest c q n p d f = let e = cut-only s R rest c in refused-by s q n p d (rw (e .0, e .1) f)
 
--- NO PART of a fare is above the bound
-pub part-bounded : (s : List ℕ) (R : List Rec) (q : Question) (fare : ℕ) (parts : List ℕ) → IsFare s R q fare parts → (k : ℕ) → getD parts k 0 ≤ partBound (length (cardsOf q))
-part-bounded s R q fare parts f k =
-    ⊎-elim
-    (λ l. rw (means-priced s R (f .good) q (legAt q k) k (f .cards-differ) _ (f .leg-by-leg k l) .1) (leg-small R q (legAt q k) (f .in-limits .legs k l .fare) (f .in-limits .persons .1)))
-    (λ l. rw (f .none-beyond k l) (omega arith)) (side k (q .count))
+-- NO PART of a fare is above the bound, and no fare above eight times the bound
+module _ (s : List ℕ) (R : List Rec) (q : Question) (fare : ℕ) (parts : List ℕ) (f : IsFare s R q fare parts) where
+  pub part-bounded : (k : ℕ) → getD parts k 0 ≤ partBound (length (cardsOf q))
+  part-bounded k =
+      ⊎-elim
+      (λ l. rw (means-priced s R (f .good) q (legAt q k) k (f .cards-differ) _ (f .leg-by-leg k l) .1) (leg-small R q (legAt q k) (f .in-limits .legs k l .fare) (f .in-limits .persons .1)))
+      (λ l. rw (f .none-beyond k l) (omega arith)) (side k (q .count))
+
+  pub fare-bounded : fare ≤ 8 * partBound (length (cardsOf q))
+  fare-bounded = rw (f .summed) (rw (f .eight) at (sum-bounded parts (partBound (length (cardsOf q))) (λ k l. part-bounded k)))
+
+  pub fare-at-most : fare ≤ greatestFare
+  fare-at-most = le-trans fare-bounded (mul-le-mul-left 8 (bound-most q))

@@ -116,7 +116,7 @@ module _ (q : Question) (o : OneCard q) where
     unfolding fareChecks priceChecks baseChecks firstFault
     faults-are =
         fault-append (checks s) (priceChecks (recordsOf s) q)
-        ∙ (rw (limits-are, cards-differ, parts-are (recordsOf s)) (sym (fault-append (checks s) (basePrice (recordsOf s) q))))
+        ∙ (rw (limits-are, cards-differ) (sym (fault-append (checks s) (basePrice (recordsOf s) q))))
 
     pub fare-is : fareOf s q ≡ baseFare s q
     unfolding fareOf baseFare

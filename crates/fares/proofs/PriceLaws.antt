@@ -2,31 +2,29 @@
 -- Assumes nothing.
 use Prim.Native.Nat.{ℕ, _+_, _-_, _*_, _≤_, _<_}
 use mathlib.Core.Path.{_≡_, refl, sym, _∙_, ap₂}
-use mathlib.Core.Bool.{true, false, cond}
-use mathlib.Core.List.{List, [], _∷_, _++_, map}
+use mathlib.Core.Bool.{true, false}
+use mathlib.Core.List.{List, _++_, map}
 use mathlib.Core.Logic.{⊎-elim}
 use native.Mathlib.Nat.{mul-le-mul-right, le-antisymm}
 use native.Mathlib.Omega.{arith}
-use lib.Dec.{ltb}
 use lib.ListN.{length, take, drop, getD, set, replicate}
 use lib.Seq.{take-all}
-use borrow.Author.Tests.{lt-ltb, le-ltb}
 use Rattle.common.specs.Lists.{sum}
-use Rattle.common.specs.Checks.{refuse, Finding, clean, fault, Check, check, firstFault, eachFrom}
+use Rattle.common.specs.Checks.{refuse, Finding, clean, fault, firstFault, eachFrom}
 use Rattle.common.specs.declared.Refusal.{Refusal}
 use Rattle.common.proofs.Lists.{first-length, first-at}
 use Rattle.common.proofs.Checks.{by-finding, as-found, orElse, each-step, each-end}
 use Rattle.common.proofs.Sums.{sum-padded, sum-next, fill-next}
 use Rattle.bundle.specs.Records.{Rec}
 use Rattle.fares.specs.Question.{noLeg, legsOf, cardSlots, cardsDiffer, inLimits}
+use Rattle.fares.specs.Reductions.{greatestPart, greatestFare}
 use Rattle.fares.specs.Legs.{legChecks, partOf}
-use Rattle.fares.specs.Fare.{partsOf, mostFare, priceChecks, noFare}
+use Rattle.fares.specs.Fare.{partsOf, priceChecks, noFare}
 use Rattle.fares.specs.Helpers.{answered, answerOf, priceOf}
 use Rattle.fares.specs.declared.Leg.{Leg}
 use Rattle.fares.specs.declared.Question.{Question}
 use Rattle.fares.specs.declared.Pricing.the-variants.{Priced}
 use Rattle.fares.specs.declared.legs.Priced.the-variants.{Part, Refused}
-use Rattle.fares.proofs.LegLaws.{mostBound}
 use Rattle.fares.proofs.FareLaws.{asked, sum-of-parts}
 
 -- an answer tells what was found
@@ -50,12 +48,9 @@ module _ (R : List Rec) (q : Question) where
   unfolding priceChecks firstFault
   cards-fail e f = no-fare (rw (e, f))
 
-  lastCheck : List Check
-  lastCheck = check (ltb mostFare (sum (partsOf R q))) 16 0 0 ∷ []
-
   -- what is found from leg k on
   pub left : ℕ → Finding
-  left k = firstFault (eachFrom k (legChecks R q) (drop k (legsOf q)) ++ lastCheck)
+  left k = firstFault (eachFrom k (legChecks R q) (drop k (legsOf q)))
 
   -- WHERE THE LOOP STANDS: the parts of the legs before k are in front, the fare is their sum, and what is found is found from leg k on
   pub record Before (k : ℕ) (parts : List ℕ) (fare : ℕ) : Type 0 where
@@ -66,18 +61,18 @@ module _ (R : List Rec) (q : Question) where
 
   module _ (e : inLimits q ≡ true) (d : cardsDiffer (cardSlots q) ≡ true) where
     pub before-first : Before 0 (replicate 8 0) 0
-    unfolding priceChecks firstFault left lastCheck sum
+    unfolding priceChecks firstFault left sum
     before-first = record { inside = omega arith; filled = refl; summed = refl; yet = rw (e, d) }
 
     as-many : length (legsOf q) ≡ q .count
     as-many = first-length noLeg (q .count) (q .legs)
 
     module _ {k : ℕ} {parts : List ℕ} {fare : ℕ} (b : Before k parts fare) where
-      pub fare-small : fare ≤ 8 * mostBound
+      pub fare-small : fare ≤ greatestFare
       fare-small =
           let i = b .inside in
           let h : k ≤ 8 = omega (arith, asked q e .few) in
-          omega (arith, b .summed, sum-of-parts R q (asked q e) k (omega (arith, as-many)), mul-le-mul-right mostBound h)
+          omega (arith, b .summed, sum-of-parts R q (asked q e) k (omega (arith, as-many)), mul-le-mul-right greatestPart h)
 
       -- one leg more: it is refused, or its part is the next
       module _ (l : k < q .count) where
@@ -96,7 +91,7 @@ module _ (R : List Rec) (q : Question) where
 
         step : left k ≡ orElse (firstFault (legChecks R q k leg)) (left (k + 1))
         unfolding left
-        step = each-step (legChecks R q) (legsOf q) k noLeg lastCheck below
+        step = each-step (legChecks R q) (legsOf q) k noLeg below
 
         pub leg-refused : {r : Refusal} → answerOf R q k (getD (q .legs) k noLeg) ≡ Refused r → noFare r ≡ priceOf R q
         leg-refused {r} h =
@@ -113,7 +108,7 @@ module _ (R : List Rec) (q : Question) where
               yet = b .yet ∙ (step ∙ rw (d .0));
             }
 
-      -- no leg is left: the fare is above its limit, or all is well
+      -- no leg is left: all is well
       module _ (l : q .count ≤ k) where
         all-legs : take k (legsOf q) ≡ legsOf q
         all-legs = take-all k (legsOf q) (omega (arith, as-many))
@@ -126,15 +121,10 @@ module _ (R : List Rec) (q : Question) where
         unfolding partsOf
         all-sum = b .summed ∙ rw all-legs (sym (sum-padded (map (partOf R q) (legsOf q)) (8 - q .count)))
 
-        last : firstFault (priceChecks R q) ≡ cond (ltb mostFare (sum (partsOf R q))) (fault (refuse 16 0 0)) clean
-        unfolding left lastCheck firstFault
-        last = b .yet ∙ rw (each-end (legChecks R q) (legsOf q) k (omega (arith, as-many)))
+        none-found : firstFault (priceChecks R q) ≡ clean
+        unfolding left
+        none-found = b .yet ∙ each-end (legChecks R q) (legsOf q) k (omega (arith, as-many))
 
-        pub fare-fails : {x : Refusal} → mostFare < fare → x ≡ refuse 16 0 0 → noFare x ≡ priceOf R q
-        fare-fails h = no-fare (last ∙ rw (lt-ltb mostFare (sum (partsOf R q)) (omega (arith, all-sum))))
-
-        pub all-well : fare ≤ mostFare → record { outcome = Priced; fare = fare; parts = parts } ≡ priceOf R q
+        pub all-well : record { outcome = Priced; fare = fare; parts = parts } ≡ priceOf R q
         unfolding priceOf
-        all-well h =
-            (λ j. record { outcome = Priced; fare = all-sum j; parts = all-parts j })
-            ∙ rw (last, le-ltb mostFare (sum (partsOf R q)) (omega (arith, all-sum)))
+        all-well = (λ j. record { outcome = Priced; fare = all-sum j; parts = all-parts j }) ∙ rw none-found

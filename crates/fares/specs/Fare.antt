@@ -2,8 +2,7 @@
 -- Assumes nothing.
 use Prim.Native.Nat.{ℕ, _-_}
 use mathlib.Core.Bool.{not}
-use mathlib.Core.List.{List, [], _∷_, _++_, map}
-use lib.Dec.{ltb}
+use mathlib.Core.List.{List, _∷_, _++_, map}
 use lib.ListN.{replicate}
 use Rattle.common.specs.Lists.{sum}
 use Rattle.common.specs.Checks.{Finding, Check, check, unless, firstFault, eachFrom}
@@ -20,18 +19,14 @@ use Rattle.fares.specs.declared.Pricing.the-variants.{Priced, Refused}
 unfoldable pub partsOf : List Rec → Question → List ℕ
 partsOf R q = map (partOf R q) (legsOf q) ++ replicate (8 - q .count) 0
 
--- 16: fare above 4,294,967,295
-abbrev pub mostFare : ℕ
-mostFare = 4294967295
-
--- 11, 17, then the legs from the first, each for 12, 13, 14, 15, last 16
+-- 11, 17, then the legs from the first, each for 12, 13, 14, 15
 unfoldable pub priceChecks : List Rec → Question → List Check
 priceChecks R q =
     check (not (inLimits q)) 11 0 0 ∷
     check (not (cardsDiffer (cardSlots q))) 17 0 0 ∷
-    (eachFrom 0 (legChecks R q) (legsOf q) ++ (check (ltb mostFare (sum (partsOf R q))) 16 0 0 ∷ []))
+    eachFrom 0 (legChecks R q) (legsOf q)
 
--- "A fare may also be asked without a book: verdict, 11, 12 to 15, 16", with "17, a card given twice, directly after 11"
+-- "A fare may also be asked without a book: verdict, 11, 12 to 15", with "17, a card given twice, directly after 11"; number 16 went with R-13
 unfoldable pub fareChecks : List ℕ → Question → List Check
 fareChecks s q = checks s ++ priceChecks (recordsOf s) q
 

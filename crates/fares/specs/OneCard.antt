@@ -5,9 +5,9 @@ use Prim.Native.Nat.{ℕ, _-_, _*_, _<_}
 use mathlib.Core.Path.{_≡_}
 use mathlib.Core.Bool.{Bool, cond, not, _&&_}
 use mathlib.Core.List.{List, [], _∷_, _++_, map}
-use lib.Dec.{eqb, ltb}
+use lib.Dec.{eqb}
 use lib.ListN.{replicate}
-use Rattle.common.specs.Lists.{every, sum}
+use Rattle.common.specs.Lists.{every}
 use Rattle.common.specs.Checks.{Check, check, firstFault, eachFrom}
 use Rattle.layout.specs.Dates.{isDay}
 use Rattle.layout.specs.Layout.{CO, AR}
@@ -20,7 +20,7 @@ use Rattle.bundle.specs.declared.choice.Choice.the-variants.{Nothing}
 use Rattle.fares.specs.Question.{between, legInLimits, legsOf}
 use Rattle.fares.specs.Reductions.{conditionsGrant, cardGrants, reduceAll}
 use Rattle.fares.specs.Legs.{wantedFor, conditionsFor, found, bodies, bodyOf, legChecks}
-use Rattle.fares.specs.Fare.{mostFare, quoted}
+use Rattle.fares.specs.Fare.{quoted}
 use Rattle.fares.specs.Meaning.{cardAt}
 use Rattle.fares.specs.declared.Leg.{Leg}
 use Rattle.fares.specs.declared.Question.{Question}
@@ -55,11 +55,9 @@ basePart R q leg =
 unfoldable pub baseParts : List Rec → Question → List ℕ
 baseParts R q = map (basePart R q) (legsOf q) ++ replicate (8 - q .count) 0
 
--- "verdict, 11, 12 to 15, 16"
+-- "verdict, 11, 12 to 15"; number 16, which came last, was never met
 abbrev pub basePrice : List Rec → Question → List Check
-basePrice R q =
-    check (not (baseInLimits q)) 11 0 0 ∷
-    (eachFrom 0 (legChecks R q) (legsOf q) ++ (check (ltb mostFare (sum (baseParts R q))) 16 0 0 ∷ []))
+basePrice R q = check (not (baseInLimits q)) 11 0 0 ∷ eachFrom 0 (legChecks R q) (legsOf q)
 
 unfoldable pub baseChecks : List ℕ → Question → List Check
 baseChecks s q = checks s ++ basePrice (recordsOf s) q

@@ -1,4 +1,4 @@
--- A discount taken from an amount and rounded once, and a chain of them (document 01, 'Pricing').
+-- A discount taken from an amount and rounded once, a chain of them, and the bounds on what comes of it (document 01, 'Pricing', and document 02, R-1 and R-13).
 -- Assumes nothing.
 use Prim.Native.Nat.{ℕ, _+_, _-_, _*_}
 use mathlib.Core.Bool.{cond}
@@ -36,3 +36,11 @@ stepsFor cards = 1 + greater 1 cards
 -- pay at most 999,999 cents plus those
 abbrev pub partBound : ℕ → ℕ
 partBound cards = 99 * (999999 + 998 * stepsFor cards)
+
+-- the largest bound on a part: that of a question with four cards, the most that it may carry
+abbrev pub greatestPart : ℕ
+greatestPart = partBound 4
+
+-- "Eight parts add to at most 793,580,040 cents, a little more after R-1" (document 02, R-13): so no fare needs a refusal of its own
+abbrev pub greatestFare : ℕ
+greatestFare = 8 * greatestPart

@@ -52,8 +52,6 @@ fn refused(why: common::Refusal) -> Quote
     }
 }
 
-const MOST_FARE: u64 = 4294967295;
-
 // The fare from a bundle that was accepted.
 fn price(bundle: &[u8], q: Question) -> Quote
     ensures { λ r. ⌜ r ≡ priceOf (recordsOf (now (bundle .entry))) q ⌝ }
@@ -83,9 +81,6 @@ fn price(bundle: &[u8], q: Question) -> Quote
                 k += 1;
             }
         }
-    }
-    if MOST_FARE < fare {
-        return refused(common::refuse(16, 0, 0));
     }
     Quote {
         outcome: Pricing::Priced,

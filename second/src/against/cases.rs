@@ -14,16 +14,14 @@ use crate::generate::breakage::{every_breakage, Breakage};
 use crate::generate::corpus::{every_row, Corpus};
 use crate::generate::crowded::Crowded;
 use crate::generate::damage::with_broken_field;
-use crate::generate::drafts::{assemble, Draft};
+use crate::generate::dearest::{costliest_offer, most_asked};
 use crate::generate::histories::{any_bundle, drawn_bundles, drawn_step};
 use crate::generate::questions::{question, question_in_limits};
 use crate::generate::random::Random;
 use crate::generate::valid::{sized_bundle_with_memos, valid_bundle, valid_bundle_with_cards};
-use crate::layout::{ar, co, re, Table};
+use crate::layout::Table;
 use crate::program::LONGEST_INPUT;
-use crate::question::{
-    cards_of, Leg, Question, CARD_SLOTS, LARGEST_PLAIN_FARE, LEG_SLOTS, MOST_PERSONS,
-};
+use crate::question::{Leg, CARD_SLOTS};
 
 /// The last of so many verdict cases judges a crowded bundle as well.
 const CROWDED_ONE_IN: u64 = 8;
@@ -306,42 +304,6 @@ fn limits_of_reading(bench: &mut Bench, random: &mut Random, book: &[u32]) -> io
         bench.ask(&Call::entry(place), &lent)?;
     }
     bench.ask(&Call::of(Name::Count), &lent)
-}
-
-/// In rising rating.
-const COSTLY_CARDS: [u64; CARD_SLOTS] = [10, 8, 9, 7];
-
-/// All records round up by as much as there is.
-fn costliest_offer() -> Vec<u8> {
-    let conditions = Draft::plain(Table::Co).with(co::ADDITIONAL_DISCOUNTS, "Y");
-    let mut drafts = vec![conditions.with(co::ROUNDING, "+").with(co::FACTOR, "998")];
-    for (place, code) in (0..).zip(COSTLY_CARDS) {
-        let mut kind = Draft::plain(Table::Re);
-        kind.write_number(re::CODE, code);
-        let mut additional = Draft::plain(Table::Ar)
-            .with(ar::CUMULATIVE, "Y")
-            .with(ar::ROUNDING, "+");
-        additional.write_number(ar::CODE, code);
-        additional.write_number(ar::RATING, 1 + place);
-        additional.write_number(ar::FACTOR, 997 - place);
-        drafts.extend([kind, additional]);
-    }
-    assemble(&drafts)
-}
-
-fn most_asked(cards: usize) -> Question {
-    let leg = Leg {
-        railway: 1185,
-        fare: LARGEST_PLAIN_FARE,
-    };
-    Question {
-        offer: 42,
-        day: 20240615,
-        persons: MOST_PERSONS,
-        cards: cards_of(&COSTLY_CARDS[..cards]),
-        leg_count: LEG_SLOTS as u64,
-        legs: [leg; LEG_SLOTS],
-    }
 }
 
 /// Lengths that look right once cut to 32 bits.

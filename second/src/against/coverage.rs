@@ -10,13 +10,14 @@ use super::wire::{outcome, Answer, Call, Lent, Name};
 use crate::bundle::{readable_records, LONGEST_BUNDLE};
 use crate::cards::kinds::{cheaper_choices, kinds_of, names, other_rules, uses_beside};
 use crate::cards::CardUse;
-use crate::fare::{largest_part, priced_legs, PricedLeg, Source};
+use crate::fare::{priced_legs, PricedLeg, Source};
 use crate::generate::cards::{Slots, PAIRS_OF_SLOTS};
 use crate::generate::corpus::every_row;
 use crate::generate::crowded::{step_of, Crowded, Length, Order, STEPS};
+use crate::generate::dearest::GREATEST_PRICED;
 use crate::generate::resent::Change;
 use crate::layout::{co, Table};
-use crate::question::{Question, CARD_SLOTS, LARGEST_CARD, LEG_SLOTS, NO_CARDS};
+use crate::question::{Question, CARD_SLOTS, LARGEST_CARD, NO_CARDS};
 use crate::rounding::{Reduction, Rounding};
 
 const ANSWERED: &str = "answered";
@@ -58,14 +59,6 @@ const OUTCOMES: [&str; 5] = [
     "already booked, cancelled",
     "cancelled",
     "already cancelled",
-];
-/// Eight legs and 99 persons at 999,999, rounded up by 998, and then by 997 to 994 for each card in turn.
-const GREATEST_PRICED: [u64; CARD_SLOTS + 1] = [
-    8 * 99 * 1_000_994,
-    8 * 99 * 1_001_985,
-    8 * 99 * 1_002_972,
-    8 * 99 * 1_003_955,
-    8 * 99 * 1_004_934,
 ];
 const EDGES_OF_TILL: [u64; 4] = [0, 65_535, 65_536, u32::MAX as u64];
 const EDGES_OF_SEQUENCE: [u64; 4] = [0, u32::MAX as u64, 1 << 32, u64::MAX];
@@ -295,11 +288,7 @@ impl Coverage {
             width += 2 + cell.len();
             group = point.0;
         }
-        let greatest = LEG_SLOTS as u64 * largest_part(CARD_SLOTS);
-        let _ = writeln!(
-            table,
-            "\n16                never met, as no fare is above {greatest}"
-        );
+        table.push('\n');
         table.trim_start().to_string()
     }
 }

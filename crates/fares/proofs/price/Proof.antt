@@ -10,7 +10,7 @@ use Rattle.common.proofs.Tests.{fails, holds}
 use Rattle.bundle.specs.Records.{recordsOf}
 use Rattle.fares.specs.Question.{cardSlots, cardsDiffer, inLimits}
 use Rattle.fares.proofs.FareLaws.{asked}
-use Rattle.fares.proofs.PriceLaws.{Before, limits-fail, cards-fail, before-first, fare-small, fare-of-leg, leg-refused, leg-priced, fare-fails, all-well}
+use Rattle.fares.proofs.PriceLaws.{Before, limits-fail, cards-fail, before-first, fare-small, fare-of-leg, leg-refused, leg-priced, all-well}
 use Rattle.fares.proofs.price.Statement.{statement}
 use Rattle.fares.proofs.price.Tie as tie
 
@@ -72,12 +72,6 @@ returns-3 c =
     c .refused3 .ensures
     ∙ leg-refused _ _ (known (t .before)) (other (t .before)) (t .before .loop .inv) (t .loop-test .taken) (sym (p .price-leg .ensures) ∙ c .before .before .answer .given .1)
 
-returns-4 : tie.Need-returns-4 Inv-loop μ-loop
-returns-4 c =
-    let d = c .before .before in
-    let l = d .before .before in
-    c .refused4 .ensures ∙ fare-fails _ _ (known l) (other l) (l .loop .inv) (d .before .loop-test .left) (d .if3 .taken) (c .before .refuse3 .ensures)
-
 pub price-spec : {M : Type 1} → statement M
 price-spec =
     tie.close (tie.spec
@@ -87,5 +81,4 @@ price-spec =
     (λ c. search needs) (λ c κs. search needs) returns-3 (λ c. search needs) (λ c. omega (arith, few (c .before .before .before .before .before .before)))
     (λ c. omega (arith, few (c .before .before .before .before .before .before))) (λ c. search needs)
     (λ c. omega (arith, (let l = c .before .before .before .before .before .before in fare-small _ _ (known l) (other l) (next c)))) (λ c. omega arith) (λ c. omega arith) next
-    (λ c κs. search needs) (λ c κs. search needs) returns-4
-    (λ c. let l = c .before .before in all-well _ _ (known l) (other l) (l .loop .inv) (c .before .loop-test .left) (c .if3 .left)))
+    (λ c. let l = c .before in all-well _ _ (known l) (other l) (l .loop .inv) (c .loop-test .left)))

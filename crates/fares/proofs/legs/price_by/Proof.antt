@@ -9,11 +9,12 @@ use borrow.Author.Tests.{eq-eqb, ne-eqb}
 use Rattle.common.specs.Checks.{firstFault}
 use Rattle.common.proofs.Tests.{fails, holds}
 use Rattle.bundle.specs.Helpers.{bodyAt}
+use Rattle.fares.specs.Reductions.{greatestPart}
 use Rattle.fares.specs.Legs.{personsFit, partBy}
 use Rattle.fares.specs.Helpers.{placesIn, bodiesAt, answerBy}
 use Rattle.fares.specs.declared.legs.Priced.the-variants.{Part, Refused}
 use Rattle.fares.proofs.StepLaws.{conditions-small, step-small}
-use Rattle.fares.proofs.LegLaws.{mostBound, by-small}
+use Rattle.fares.proofs.LegLaws.{by-small}
 use borrow.Author.Needs.{needs}
 use Rattle.fares.proofs.legs.price_by.Statement.{statement}
 use Rattle.fares.proofs.legs.price_by.Tie as tie
@@ -29,7 +30,7 @@ part c =
     let g = c .before .before in
     rw (← g .conditions-grant .ensures, ← c .before .reduce .ensures, ← c .after-cards .ensures)
 
-small : (c : tie.After-after-cards) → c .after-cards .result * entry (c .before .before) .args .q .persons ≤ mostBound
+small : (c : tie.After-after-cards) → c .after-cards .result * entry (c .before .before) .args .q .persons ≤ greatestPart
 small c =
     let s = entry (c .before .before) in
     let a = s .args in
