@@ -4,6 +4,7 @@ use Prim.Native.Nat.{ℕ, _-_, _*_}
 use mathlib.Core.Path.{_≡_}
 use mathlib.Core.Bool.{true, false}
 use mathlib.Core.List.{List, [], _∷_, _++_}
+use lib.ListN.{replicate}
 use Rattle.common.specs.Lists.{firstOf}
 use Rattle.common.specs.Checks.{refuse}
 use Rattle.layout.specs.Bytes.{byte-plus, byte-minus, byte-0, byte-N, byte-Y}
@@ -17,12 +18,13 @@ use Rattle.fares.specs.declared.Question.{Question}
 use Rattle.fares.specs.declared.Pricing.the-variants.{Priced}
 
 -- a plain fare at a discount is so many hundred-thousandths of a cent; a question has this fare and these parts, by a bundle, or is refused by this number;
--- a part by so many cards is at most this; a number YYYYMMDD is a day, or is none
+-- a part by so many cards is at most this, and eight of them are at most this; a number YYYYMMDD is a day, or is none
 pub data Figure : Type 0 where
   exact : (fare discount amount : ℕ) → Figure
   asked : (bundle : List ℕ) → Question → (fare : ℕ) (parts : List ℕ) → Figure
   turned-away : (bundle : List ℕ) → Question → (number : ℕ) → Figure
   bound : (cards cents : ℕ) → Figure
+  eight-parts : (cards cents : ℕ) → Figure
   day : ℕ → Figure
   no-day : ℕ → Figure
 
@@ -32,6 +34,7 @@ Says (exact fare discount amount) = fare * (unit - discount) ≡ amount
 Says (asked bundle q fare parts) = fareOf bundle q ≡ record { outcome = Priced; fare = fare; parts = firstOf 0 8 parts }
 Says (turned-away bundle q number) = fareOf bundle q ≡ noFare (refuse number 0 0)
 Says (bound cards cents) = partBound cards ≡ cents
+Says (eight-parts cards cents) = 8 * partBound cards ≡ cents
 Says (day d) = isDay d ≡ true
 Says (no-day d) = isDay d ≡ false
 
@@ -86,6 +89,8 @@ figures =
     -- not tried: a part of the Y records, which would leave 1, and no card, which would leave 100
     cards 1 (cardWith 5 byte-Y 1 50000 byte-N 0 ++ cardWith 7 byte-Y 2 1000 byte-plus 500) (5 ∷ 7 ∷ []) 500 ∷
     cards 100 (cardWith 5 byte-Y 1 0 byte-plus 998) (5 ∷ []) 998 ∷
+    -- the dearest ticket there is: eight legs, 99 persons, and five records that each round up as far as they can
+    asked (conditions 0 byte-Y (grant 0 byte-plus 998) ++ (named 5 ++ (named 6 ++ (named 7 ++ (named 8 ++ (cardWith 5 byte-Y 1 0 byte-plus 997 ++ (cardWith 6 byte-Y 2 0 byte-plus 996 ++ (cardWith 7 byte-Y 3 0 byte-plus 995 ++ cardWith 8 byte-Y 4 0 byte-plus 994)))))))) (ticket 99 (5 ∷ 6 ∷ 7 ∷ 8 ∷ []) 8 (replicate 8 (leg 1185 999999))) 795907728 (replicate 8 99488466) ∷
     -- a card twice, in any two slots; behind a slot that is not used; of four digits, in any slot
     turned-away [] (ticket 1 (5 ∷ 7 ∷ 5 ∷ []) 1 (leg 1185 1010 ∷ [])) 17 ∷
     turned-away [] (ticket 1 (5 ∷ 7 ∷ 9 ∷ 1000 ∷ []) 1 (leg 1185 1010 ∷ [])) 11 ∷
@@ -97,6 +102,8 @@ figures =
     bound 2 99296307 ∷
     bound 3 99395109 ∷
     bound 4 99493911 ∷
+    eight-parts 1 793580040 ∷
+    eight-parts 4 795951288 ∷
     day 20240229 ∷
     day 20000229 ∷
     no-day 20230229 ∷

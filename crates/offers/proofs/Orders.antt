@@ -142,8 +142,8 @@ module _ (s : List ℕ) where
   unfolding fareChecks priceChecks every any
   fare-among q ns =
       let all = fareNumbers ++ ns in
-      append-tells all (checks s) (priceChecks (recordsOf s) q) (verdict-among (11 ∷ 17 ∷ 12 ∷ 13 ∷ 14 ∷ 15 ∷ 16 ∷ ns))
-      (append-tells all (eachFrom 0 (legChecks (recordsOf s) q) (legsOf q)) _ (each-tells all (legChecks (recordsOf s) q) (λ i leg. refl) 0 (legsOf q)) refl)
+      append-tells all (checks s) (priceChecks (recordsOf s) q) (verdict-among (11 ∷ 17 ∷ 12 ∷ 13 ∷ 14 ∷ 15 ∷ ns))
+      (each-tells all (legChecks (recordsOf s) q) (λ i leg. refl) 0 (legsOf q))
 
   fare-numbers : (q : Question) → TellsOf fareNumbers (fareChecks s q)
   fare-numbers q = fare-among q []

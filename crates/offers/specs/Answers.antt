@@ -117,7 +117,7 @@ abbrev pub verdictNumbers : List ℕ
 verdictNumbers = 1 ∷ 2 ∷ 3 ∷ 4 ∷ 5 ∷ 6 ∷ 7 ∷ []
 
 abbrev pub fareNumbers : List ℕ
-fareNumbers = verdictNumbers ++ (11 ∷ 17 ∷ 12 ∷ 13 ∷ 14 ∷ 15 ∷ 16 ∷ [])
+fareNumbers = verdictNumbers ++ (11 ∷ 17 ∷ 12 ∷ 13 ∷ 14 ∷ 15 ∷ [])
 
 abbrev pub saleNumbers : List ℕ
 saleNumbers = fareNumbers ++ (21 ∷ 22 ∷ 23 ∷ 24 ∷ [])

@@ -17,7 +17,6 @@
 //            13  the day is outside that CO: leg
 //            14  the persons are outside that CO's fields 28 and 29: leg
 //            15  a condition is set that the engine does not read: leg, field
-//            16  the fare is above 4,294,967,295
 //   sale     21  the book is unsound
 //            22  till or sequence is 0 or too large
 //            23  the number is held by another question: entry

@@ -45,7 +45,7 @@ module _ (book : List ℕ) (till sequence : ℕ) where
   present = getD (entries book) place noEntry
 
   -- SALE. "21, 22; if the number is present, the same question answers 'already booked' .., another question gives 23; then 24, the bundle's verdict 1-7,
-  -- 11, and the legs from the first, each for 12, 13, 14, 15; last 16", with 17 "directly after 11"
+  -- 11, and the legs from the first, each for 12, 13, 14, 15", with 17 "directly after 11"; number 16 went with R-13
   -- By whether the book is sound, the question's words, and the checks of its fare
   abbrev pub saleChecksBy : Bool → List ℕ → List Check → List Check
   saleChecksBy sound asked fare =
