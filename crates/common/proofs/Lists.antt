@@ -76,6 +76,10 @@ module _ {A : Type 0} (p : A → Bool) (d : A) where
   at-any (x ∷ s) zero l h = rw h
   at-any (x ∷ s) (suc i) l h = rw (at-any s i (le-of-suc-le-suc l) h, or-true)
 
+-- what holds of all of a list holds of a number among them
+pub every-among : (p : ℕ → Bool) (s : List ℕ) (n : ℕ) → every p s ≡ true → any (eqb n) s ≡ true → p n ≡ true
+every-among p s n e h = let a = any-at (eqb n) 0 s h in rw (eqb-true n (getD s (a .0) 0) (a .2)) (every-at p s e (a .0) 0 (a .1))
+
 -- a list after a store: the stored number at its place, and elsewhere what was there
 pub after-store : (l : List ℕ) (k j v : ℕ) → ((j ≡ k) × (getD (set l k v) j 0 ≡ v)) ⊎ (getD (set l k v) j 0 ≡ getD l j 0)
 after-store [] k j v = inr refl

@@ -18,8 +18,8 @@ use Rattle.sales.specs.Reading.{countAnswer, entryAnswer, findAnswer}
 use Rattle.sales.specs.declared.Booking.{Booking}
 use Rattle.sales.specs.declared.Lookup.{Lookup}
 use Rattle.sales.specs.declared.Lookup.the-variants.{Found, Refused}
-use Rattle.offers.specs.Answers.{Told, answers, refuses, Among, verdictTells, fareTells, receiptTells, sumTells, tallyTells, bookingValues, lookupTells, bookingTells}
-use Rattle.offers.specs.Answers.{verdictNumbers, fareNumbers, saleNumbers, cancelNumbers, balanceNumbers, totalNumbers, countNumbers, entryNumbers, findNumbers}
+use Rattle.offers.specs.Answers.{Told, answers, refuses, verdictTells, fareTells, receiptTells, sumTells, tallyTells, bookingValues, lookupTells, bookingTells}
+use Rattle.offers.specs.Numbers.{Among, verdictNumbers, fareNumbers, saleNumbers, cancelNumbers, balanceNumbers, totalNumbers, countNumbers, entryNumbers, findNumbers}
 use Rattle.offers.proofs.Orders.{the-numbers-of-a-verdict, the-numbers-of-a-fare, the-numbers-of-a-sale}
 use Rattle.offers.proofs.Orders.{the-numbers-of-a-cancellation, the-numbers-of-a-balance, the-numbers-of-a-total, the-numbers-of-a-count, the-numbers-of-an-entry, the-numbers-of-a-find}
 use Rattle.edge.specs.Replies.{refusalIn, judgementReply, quoteReply, receiptReply, sumReply, tallyReply, refusalOf, bookingReply}

@@ -11,6 +11,8 @@ use lib.ListN.{length, getD, replicate}
 use Rattle.common.specs.Lists.{every, any, sum}
 use Rattle.common.specs.Checks.{Finding, clean, fault, Check, check, unless, firstFault, eachFrom, TellsOf}
 use Rattle.common.specs.declared.Refusal.{Refusal}
+use Rattle.common.proofs.Tests.{never}
+use Rattle.common.proofs.Lists.{every-among}
 use Rattle.common.proofs.Checks.{by-finding, clean-means, means-clean, fault-means, means-fault, append-tells, each-tells, first-among}
 use Rattle.bundle.specs.Records.{restOf, recordsOf}
 use Rattle.bundle.specs.Verdict.{fieldChecks, endChecks, firstPass, recordChecks, secondPass, checks, verdictOf}
@@ -35,7 +37,8 @@ use Rattle.sales.specs.declared.Outcome.{Outcome}
 use Rattle.sales.specs.declared.Outcome.the-variants.{Booked, AlreadyBooked, Cancelled, AlreadyCancelled, Refused as NoEntry}
 use Rattle.sales.proofs.AnswersByCase.{booked-parts}
 use Rattle.offers.specs.Answers.{Told, answers, refuses, verdictTells, pricingTells, fareTells, booked, alreadyBooked, cancelled, alreadyCancelled, outcomeTells, receiptTells, sumTells, tallyTells, bookingValues, bookingWidth, lookupTells, bookingTells, Follows}
-use Rattle.offers.specs.Answers.{verdictNumbers, fareNumbers, saleNumbers, cancelNumbers, balanceNumbers, totalNumbers, countNumbers, entryNumbers, findNumbers, Among}
+use Rattle.offers.specs.Numbers.{Among, verdictNumbers, fareNumbers, saleNumbers, cancelNumbers, balanceNumbers, totalNumbers, countNumbers, entryNumbers, findNumbers, allNumbers}
+use Rattle.offers.specs.Numbers.{CallTells, by-verdict, by-fare, by-sale, by-cancel, by-balance, by-total, by-count, by-entry, by-find}
 
 -- WHAT IS TOLD by what the checks come to: a refusal with n zeros, or the values
 abbrev noValues : ℕ → Refusal → Told
@@ -261,3 +264,23 @@ the-numbers-of-an-entry book i = refused-among entryNumbers (entry-follows book 
 
 pub the-numbers-of-a-find : (book : List ℕ) (till sequence : ℕ) (why : Refusal) (us : List ℕ) → bookingTells (findAnswer book till sequence) ≡ refuses why us → Among findNumbers (why .number)
 the-numbers-of-a-find book till sequence = refused-among findNumbers (find-follows book till sequence) (cancel-numbers book till sequence)
+
+-- So each number that any call tells stands in the table of all; 16, a fare above 4,294,967,295 cents, does not, and no call tells it.
+within : (ns : List ℕ) (n : ℕ) → every (λ k. any (eqb k) allNumbers) ns ≡ true → Among ns n → Among allNumbers n
+within = every-among (λ k. any (eqb k) allNumbers)
+
+pub the-numbers-of-any-call : (t : Told) → CallTells t → (why : Refusal) (us : List ℕ) → t ≡ refuses why us → Among allNumbers (why .number)
+unfolding every any
+the-numbers-of-any-call t (by-verdict bundle) why us e = within verdictNumbers (why .number) refl (the-numbers-of-a-verdict bundle why us e)
+the-numbers-of-any-call t (by-fare bundle q) why us e = within fareNumbers (why .number) refl (the-numbers-of-a-fare bundle q why us e)
+the-numbers-of-any-call t (by-sale book till sequence bundle q) why us e = within saleNumbers (why .number) refl (the-numbers-of-a-sale book till sequence bundle q why us e)
+the-numbers-of-any-call t (by-cancel book till sequence) why us e = within cancelNumbers (why .number) refl (the-numbers-of-a-cancellation book till sequence why us e)
+the-numbers-of-any-call t (by-balance book railway) why us e = within balanceNumbers (why .number) refl (the-numbers-of-a-balance book railway why us e)
+the-numbers-of-any-call t (by-total book) why us e = within totalNumbers (why .number) refl (the-numbers-of-a-total book why us e)
+the-numbers-of-any-call t (by-count book) why us e = within countNumbers (why .number) refl (the-numbers-of-a-count book why us e)
+the-numbers-of-any-call t (by-entry book i) why us e = within entryNumbers (why .number) refl (the-numbers-of-an-entry book i why us e)
+the-numbers-of-any-call t (by-find book till sequence) why us e = within findNumbers (why .number) refl (the-numbers-of-a-find book till sequence why us e)
+
+pub no-call-tells-sixteen : (t : Told) → CallTells t → (why : Refusal) (us : List ℕ) → t ≡ refuses why us → why .number ≡ 16 → ⊥
+unfolding any
+no-call-tells-sixteen t c why us e sixteen = never (rw sixteen at (the-numbers-of-any-call t c why us e)) refl

@@ -7,7 +7,7 @@ use mathlib.Core.Path.{_≡_, refl, sym, _∙_, ap}
 use mathlib.Core.Bool.{Bool, true, false, cond}
 use mathlib.Core.List.{List, [], _∷_, _++_, List·Memᴰ}
 use mathlib.Core.Logic.{_↔_, _⊎_, inl, inr, ⊎-elim}
-use native.Mathlib.Nat.{mul-le-mul-right}
+use native.Mathlib.Nat.{mul-le-mul-right, le-trans}
 use native.Mathlib.Omega.{arith}
 use lib.Dec.{eqb}
 use lib.ListN.{length, getD, replicate}
@@ -45,7 +45,7 @@ use Rattle.bundle.proofs.Computed.{verdict-figures-hold}
 use Rattle.fares.specs.Rounding.{IsRounded}
 use Rattle.fares.specs.Fare.{fareOf}
 use Rattle.fares.specs.Question.{between, cardSlots, cardsOf, cardsDiffer, inLimits}
-use Rattle.fares.specs.Reductions.{greater}
+use Rattle.fares.specs.Reductions.{greater, partBound, greatestPart}
 use Rattle.fares.specs.Meaning.{cardAt, withCards, SameCards, InLimits, CardsDiffer, Applies, AllTogether, Permitted, After, AfterCards, LegFare, IsFare, NoFare}
 use Rattle.fares.specs.OneCard.{OneCard, baseFare}
 use Rattle.fares.specs.Figures as fares
@@ -53,12 +53,13 @@ use Rattle.fares.specs.declared.Leg.{Leg}
 use Rattle.fares.specs.declared.Question.{Question}
 use Rattle.fares.specs.declared.Pricing.the-variants.{Priced, Refused}
 use Rattle.fares.proofs.RoundLaws.{nothing-left}
+use Rattle.fares.proofs.LegLaws.{bound-most}
 use Rattle.fares.proofs.RecordMeaning.{rounded-only}
 use Rattle.fares.proofs.RecordsApplied.{order-only}
 use Rattle.fares.proofs.PermittedMeaning.{not-above, by-one, one-amount, leaves-some, applying-permitted}
 use Rattle.fares.proofs.QuestionLimits.{limits-mean, means-limits}
 use Rattle.fares.proofs.CardSlots.{differ-means, means-differ}
-use Rattle.fares.proofs.Meaning.{fare-means, means-fare, no-fare-means, means-no-fare, part-bounded}
+use Rattle.fares.proofs.Meaning.{fare-means, means-fare, no-fare-means, means-no-fare, part-bounded, fare-bounded, fare-at-most}
 use Rattle.fares.proofs.OneCard.{fare-is}
 use Rattle.fares.proofs.CardOrder.{any-order}
 use Rattle.fares.proofs.Computed.{fare-figures-hold}
@@ -259,6 +260,24 @@ a-part-is-bounded = part-bounded
 pub the-bounds-by-the-cards : upTo (λ cards. 99 * (999999 + 998 * (1 + greater 1 cards))) 5 ≡ 99197505 ∷ 99197505 ∷ 99296307 ∷ 99395109 ∷ 99493911 ∷ []
 unfolding upTo
 the-bounds-by-the-cards = refl
+
+-- A fare is at most eight times the bound on its parts, and so at most eight times the greatest of these bounds: 795,951,288 cents. It fits 32 bits, and no number
+-- refuses one that is too high.
+module _ (bundle : List ℕ) (R : List Rec) (q : Question) (fare : ℕ) (parts : List ℕ) (is-fare : IsFare bundle R q fare parts) where
+  pub a-fare-is-bounded : fare ≤ 8 * partBound (length (cardsOf q))
+  a-fare-is-bounded = fare-bounded bundle R q fare parts is-fare
+
+  pub a-fare-is-at-most-eight-greatest-parts : fare ≤ 8 * greatestPart
+  a-fare-is-at-most-eight-greatest-parts = fare-at-most bundle R q fare parts is-fare
+
+  pub a-fare-fits-32-bits : fare ≤ 4294967295
+  a-fare-fits-32-bits = le-trans a-fare-is-at-most-eight-greatest-parts (omega arith)
+
+pub the-greatest-bounds : (greatestPart ≡ 99493911) × (8 * greatestPart ≡ 795951288)
+the-greatest-bounds = (refl, refl)
+
+pub no-part-has-a-greater-bound : (q : Question) → partBound (length (cardsOf q)) ≤ greatestPart
+no-part-has-a-greater-bound = bound-most
 
 -- A question's cards are counted slot by slot.
 pub the-cards-of-a-question-are-counted : (q : Question)

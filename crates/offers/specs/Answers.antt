@@ -2,11 +2,8 @@
 -- Assumes nothing.
 use Prim.Native.Nat.{ℕ}
 use mathlib.Core.Path.{_≡_}
-use mathlib.Core.Bool.{true}
 use mathlib.Core.List.{List, [], _∷_, _++_, flatMap}
-use lib.Dec.{eqb}
 use lib.ListN.{replicate}
-use Rattle.common.specs.Lists.{any}
 use Rattle.common.specs.Checks.{Check, AllPass, First}
 use Rattle.common.specs.declared.Refusal.{Refusal}
 use Rattle.bundle.specs.declared.Judgement.{Judgement}
@@ -108,34 +105,3 @@ pub record Follows (t : Told) (cs : List Check) (n : ℕ) (vs : List ℕ) : Type
   pub first-refuses : (why : Refusal) → First cs why → t ≡ refuses why (replicate n 0)
   pub answered-if : (us : List ℕ) → t ≡ answers us → AllPass cs × (us ≡ vs)
   pub passing-answers : AllPass cs → t ≡ answers vs
-
--- THE TABLE OF NUMBERS, by the calls that can give them.
-abbrev pub Among : List ℕ → ℕ → Type 0
-Among ns k = any (eqb k) ns ≡ true
-
-abbrev pub verdictNumbers : List ℕ
-verdictNumbers = 1 ∷ 2 ∷ 3 ∷ 4 ∷ 5 ∷ 6 ∷ 7 ∷ []
-
-abbrev pub fareNumbers : List ℕ
-fareNumbers = verdictNumbers ++ (11 ∷ 17 ∷ 12 ∷ 13 ∷ 14 ∷ 15 ∷ [])
-
-abbrev pub saleNumbers : List ℕ
-saleNumbers = fareNumbers ++ (21 ∷ 22 ∷ 23 ∷ 24 ∷ [])
-
-abbrev pub cancelNumbers : List ℕ
-cancelNumbers = 21 ∷ 22 ∷ 25 ∷ []
-
-abbrev pub balanceNumbers : List ℕ
-balanceNumbers = 21 ∷ 11 ∷ []
-
-abbrev pub totalNumbers : List ℕ
-totalNumbers = 21 ∷ []
-
-abbrev pub countNumbers : List ℕ
-countNumbers = 21 ∷ []
-
-abbrev pub entryNumbers : List ℕ
-entryNumbers = 21 ∷ 25 ∷ []
-
-abbrev pub findNumbers : List ℕ
-findNumbers = 21 ∷ 22 ∷ 25 ∷ []
