@@ -145,7 +145,7 @@ static offers_quote price(const uint8_t *bundle, size_t length, const offers_que
         quote.parts[k] = (uint32_t)(amount * q->persons);
         quote.fare += quote.parts[k];
     }
-    return quote.fare > UINT32_MAX ? refused(OFFERS_FARE_TOO_HIGH, 0, 0) : quote;
+    return quote;
 }
 
 offers_quote plain_fare(const uint8_t *bundle, size_t length, offers_question question) {

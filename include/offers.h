@@ -22,8 +22,8 @@ extern "C" {
 #endif
 
 /* The version of the engine. The first number rises where a program that was written before has to be changed. */
-#define OFFERS_VERSION "1.0.0"
-#define OFFERS_VERSION_MAJOR 1
+#define OFFERS_VERSION "2.0.0"
+#define OFFERS_VERSION_MAJOR 2
 #define OFFERS_VERSION_MINOR 0
 #define OFFERS_VERSION_PATCH 0
 
@@ -44,7 +44,7 @@ enum offers_number {
     OFFERS_DAY_OUTSIDE = 13,      /* the day is outside the period of a leg's conditions; leg */
     OFFERS_PERSONS_OUTSIDE = 14,  /* the persons are fewer or more than a leg's conditions allow; leg */
     OFFERS_CONDITION_UNREAD = 15, /* a leg's conditions have one that the engine does not read; leg, field */
-    OFFERS_FARE_TOO_HIGH = 16,    /* the fare is above 4,294,967,295 cents */
+    /* 16 was OFFERS_FARE_TOO_HIGH; neither is used again */
     OFFERS_CARD_TWICE = 17,       /* the question gives a card twice */
     OFFERS_BOOK_UNSOUND = 21,     /* the book is not sound */
     OFFERS_NUMBER_LIMITS = 22,    /* the till or the sequence is 0 or too large */
@@ -69,7 +69,6 @@ static inline const char *offers_text(uint64_t number) {
     case OFFERS_DAY_OUTSIDE: return "the day is outside the period of a leg's conditions";
     case OFFERS_PERSONS_OUTSIDE: return "the persons are fewer or more than a leg's conditions allow";
     case OFFERS_CONDITION_UNREAD: return "a leg's conditions have one that the engine does not read";
-    case OFFERS_FARE_TOO_HIGH: return "the fare is above 4,294,967,295 cents";
     case OFFERS_CARD_TWICE: return "the question gives a card twice";
     case OFFERS_BOOK_UNSOUND: return "the book is not sound";
     case OFFERS_NUMBER_LIMITS: return "the till or the sequence is 0 or too large";
@@ -145,7 +144,7 @@ typedef struct {
 
 typedef struct {
     uint64_t number, place, detail;
-    uint64_t fare;                    /* the sum of the parts, in cents */
+    uint64_t fare;                    /* the sum of the parts, in cents; 32 bits hold it */
     uint32_t parts[OFFERS_MOST_LEGS]; /* one a leg, zeros after them */
 } offers_quote;
 
@@ -179,7 +178,7 @@ typedef struct {
 /* Judges a bundle, of any length: 1 to 7, or the count of its records. */
 offers_judgement offers_verdict(const uint8_t *bundle, size_t length);
 
-/* Prices a ticket: 1 to 7, 11, 17, then the legs from the first, each for 12 to 15, then 16. */
+/* Prices a ticket: 1 to 7, 11, 17, then the legs from the first, each for 12 to 15. */
 offers_quote offers_fare(const uint8_t *bundle, size_t length, offers_question question);
 
 /* Books a sale under its number, till and sequence: 21, 22, 23, 24, then as offers_fare. The same question under a

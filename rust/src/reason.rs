@@ -59,7 +59,7 @@ reasons! {
     13 DayOutside "the day is outside the period of a leg's conditions"
     14 PersonsOutside "the persons are fewer or more than a leg's conditions allow"
     15 ConditionUnread "a leg's conditions have one that the engine does not read"
-    16 FareTooHigh "the fare is above 4,294,967,295 cents"
+    // 16 was FareTooHigh; neither is used again
     17 CardTwice "the question gives a card twice"
     21 BookUnsound "the book is not sound"
     22 NumberOutside "the till or the sequence is 0 or too large"

@@ -1,6 +1,4 @@
 //! The crate says the same numbers as the C header.
-use offers::Reason;
-
 const HEADER: &str = include_str!("../../include/offers.h");
 
 /// What the header defines a name to be.
@@ -35,23 +33,4 @@ fn the_limits_are_the_same() {
     assert_eq!(number("LARGEST_PLAIN_FARE"), u64::from(offers::LARGEST_PLAIN_FARE));
     assert_eq!(number("LARGEST_TILL"), u64::from(offers::LARGEST_TILL));
     assert_eq!(number("LARGEST_SEQUENCE"), offers::LARGEST_SEQUENCE);
-}
-
-/// The numbers of refusals in the header, from the first after 0 on.
-fn refusals() -> Vec<u64> {
-    let from = HEADER.split("enum offers_number {").nth(1).unwrap();
-    let values = from.split("};").next().unwrap().lines().filter_map(|line| line.split(" = ").nth(1));
-    let digits = |value: &str| value.chars().take_while(char::is_ascii_digit).collect::<String>();
-    values.map(|value| digits(value).parse().unwrap()).filter(|&number| number != 0).collect()
-}
-
-#[test]
-fn every_number_of_a_refusal_has_a_reason() {
-    assert!(refusals().len() >= 19);
-    for number in refusals() {
-        let reason = Reason::from(number);
-        assert!(!matches!(reason, Reason::Other(_)), "{number} is not known");
-        assert_eq!(reason.number(), number);
-    }
-    assert_eq!(Reason::from(8), Reason::Other(8));
 }

@@ -1,0 +1,31 @@
+"""The numbers of refusals: the one list, docs/refusals.tsv, those that are gone, and a function for C that tells texts."""
+import csv
+import pathlib
+
+ROOT = pathlib.Path(__file__).resolve().parent.parent
+LIST = ROOT / "docs" / "refusals.tsv"
+# Told once, and never used again: neither the number nor its names.
+GONE = ({"number": "16", "C": "FARE_TOO_HIGH", "Rust": "FareTooHigh"},)
+
+
+def rows_of(path):
+    """The rows of a list that is separated by tabs, each by the names in its first line."""
+    with open(path, newline="", encoding="utf-8") as file:
+        return list(csv.DictReader(file, delimiter="\t", quoting=csv.QUOTE_NONE))
+
+
+def rows():
+    return rows_of(LIST)
+
+
+def c_string(text):
+    for mark in '\\"?':
+        text = text.replace(mark, f"\\{mark}")
+    return f'"{text}"'
+
+
+def c_function(name, texts, otherwise):
+    """A function for C that tells the text of each number, and what stands for any other."""
+    cases = [f"    case {number}: return {c_string(text)};" for number, text in texts]
+    head = [f"static inline const char *{name}(uint64_t number) {{", "    switch (number) {"]
+    return "\n".join([*head, *cases, f"    default: return {otherwise};", "    }", "}", ""])
