@@ -10,7 +10,7 @@ use Rattle.common.specs.Checks.{refuse}
 use Rattle.layout.specs.Bytes.{byte-plus, byte-minus, byte-0, byte-N, byte-Y}
 use Rattle.layout.specs.Dates.{isDay}
 use Rattle.fares.specs.Rounding.{unit}
-use Rattle.fares.specs.Reductions.{partBound}
+use Rattle.fares.specs.Reductions.{partBound, greatestFare}
 use Rattle.fares.specs.Fare.{noFare, fareOf}
 use Rattle.bundle.specs.Samples.{grant, conditions, named, cardName, cardWith, card}
 use Rattle.fares.specs.Samples.{leg, ticket}
@@ -18,13 +18,14 @@ use Rattle.fares.specs.declared.Question.{Question}
 use Rattle.fares.specs.declared.Pricing.the-variants.{Priced}
 
 -- a plain fare at a discount is so many hundred-thousandths of a cent; a question has this fare and these parts, by a bundle, or is refused by this number;
--- a part by so many cards is at most this, and eight of them are at most this; a number YYYYMMDD is a day, or is none
+-- a part by so many cards is at most this, eight of them are at most this, and so is any fare; a number YYYYMMDD is a day, or is none
 pub data Figure : Type 0 where
   exact : (fare discount amount : ℕ) → Figure
   asked : (bundle : List ℕ) → Question → (fare : ℕ) (parts : List ℕ) → Figure
   turned-away : (bundle : List ℕ) → Question → (number : ℕ) → Figure
   bound : (cards cents : ℕ) → Figure
   eight-parts : (cards cents : ℕ) → Figure
+  greatest-fare : (cents : ℕ) → Figure
   day : ℕ → Figure
   no-day : ℕ → Figure
 
@@ -35,6 +36,7 @@ Says (asked bundle q fare parts) = fareOf bundle q ≡ record { outcome = Priced
 Says (turned-away bundle q number) = fareOf bundle q ≡ noFare (refuse number 0 0)
 Says (bound cards cents) = partBound cards ≡ cents
 Says (eight-parts cards cents) = 8 * partBound cards ≡ cents
+Says (greatest-fare cents) = greatestFare ≡ cents
 Says (day d) = isDay d ≡ true
 Says (no-day d) = isDay d ≡ false
 
@@ -103,7 +105,7 @@ figures =
     bound 3 99395109 ∷
     bound 4 99493911 ∷
     eight-parts 1 793580040 ∷
-    eight-parts 4 795951288 ∷
+    greatest-fare 795951288 ∷
     day 20240229 ∷
     day 20000229 ∷
     no-day 20230229 ∷
