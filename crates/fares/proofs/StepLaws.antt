@@ -104,14 +104,15 @@ bound-of-one (suc zero) l = refl
 bound-of-one (suc (suc n)) l = absurd (omega arith)
 
 -- the bound grows with the cards
-pub bound-grows : (a b : ℕ) → a ≤ b → partBound a ≤ partBound b
-bound-grows a b l = go (leb 1 a) refl (leb 1 b) refl
+greater-grows : (a b : ℕ) → a ≤ b → greater 1 a ≤ greater 1 b
+greater-grows a b l = go (leb 1 a)
   where
-    go : (s : Bool) → leb 1 a ≡ s → (t : Bool) → leb 1 b ≡ t → 99 * (999999 + 998 * (1 + cond s a 1)) ≤ 99 * (999999 + 998 * (1 + cond t b 1))
-    go true e true f = omega arith
-    go false e true f = omega (arith, leb-true 1 b f)
-    go true e false f = omega (arith, leb-true 1 a e, leb-false 1 b f)
-    go false e false f = omega arith
+    go : (t : Bool) → cond t a 1 ≤ greater 1 b
+    go true = le-trans l (greater-is 1 b .1)
+    go false = greater-is 1 b .0
+
+pub bound-grows : (a b : ℕ) → a ≤ b → partBound a ≤ partBound b
+bound-grows a b l = omega (arith, greater-grows a b l)
 
 -- THE BOUND on a part: at most 99 persons, each with the steps of so many cards from at most 999,999 cents
 pub part-small : (cards amount persons : ℕ) → amount ≤ 999999 + 998 * stepsFor cards → persons ≤ 99 → amount * persons ≤ partBound cards
