@@ -6,7 +6,7 @@ use mathlib.Core.Path.{_≡_, refl, sym, _∙_, ap}
 use mathlib.Core.Bool.{true, false, not}
 use mathlib.Core.List.{List, [], _∷_, _++_, map}
 use mathlib.Core.Logic.{⊎-elim}
-use native.Mathlib.Nat.{mul-le-mul-left, le-trans, zero-add, le-of-suc-le-suc, not-suc-le-zero}
+use native.Mathlib.Nat.{zero-add, le-of-suc-le-suc, not-suc-le-zero}
 use native.Mathlib.Omega.{arith}
 use lib.ListN.{length, getD, replicate, length-map, length-append, length-replicate, List·getD-append}
 use lib.Seq.{ext-getD}
@@ -27,14 +27,14 @@ use Rattle.bundle.proofs.CutAndJoin.{cut-only}
 use Rattle.bundle.proofs.Meaning.{accepted-good, good-accepted, recut}
 use Rattle.bundle.proofs.Faults.{fault-means, means-fault}
 use Rattle.fares.specs.Question.{noLeg, legsOf, cardSlots, cardsOf, cardsDiffer, inLimits}
-use Rattle.fares.specs.Reductions.{partBound, greatestFare}
+use Rattle.fares.specs.Reductions.{partBound}
 use Rattle.fares.specs.Legs.{legChecks, partOf}
 use Rattle.fares.specs.Fare.{partsOf, priceChecks, fareChecks, noFare, priced, fareOf}
 use Rattle.fares.specs.Meaning.{legAt, InLimits, CardsDiffer, LegFare, IsFare, NoFare, faulty, outside-limits, card-twice, at-leg}
 use Rattle.fares.specs.declared.Question.{Question}
 use Rattle.fares.specs.declared.Quote.{Quote}
 use Rattle.fares.specs.declared.Pricing.the-variants.{Priced}
-use Rattle.fares.proofs.LegLaws.{bound-most, leg-small}
+use Rattle.fares.proofs.LegLaws.{leg-small}
 use Rattle.fares.proofs.CardSlots.{differ-means, means-differ}
 use Rattle.fares.proofs.QuestionLimits.{limits-mean, means-limits}
 use Rattle.fares.proofs.LegMeaning.{leg-means, means-turned, means-priced}
@@ -258,6 +258,3 @@ module _ (s : List ℕ) (R : List Rec) (q : Question) (fare : ℕ) (parts : List
 
   pub fare-bounded : fare ≤ 8 * partBound (length (cardsOf q))
   fare-bounded = rw (f .summed) (rw (f .eight) at (sum-bounded parts (partBound (length (cardsOf q))) (λ k l. part-bounded k)))
-
-  pub fare-at-most : fare ≤ greatestFare
-  fare-at-most = le-trans fare-bounded (mul-le-mul-left 8 (bound-most q))

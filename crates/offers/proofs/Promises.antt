@@ -7,7 +7,7 @@ use mathlib.Core.Path.{_≡_, refl, sym, _∙_, ap}
 use mathlib.Core.Bool.{Bool, true, false, cond}
 use mathlib.Core.List.{List, [], _∷_, _++_, List·Memᴰ}
 use mathlib.Core.Logic.{_↔_, _⊎_, inl, inr, ⊎-elim}
-use native.Mathlib.Nat.{mul-le-mul-right, le-trans}
+use native.Mathlib.Nat.{mul-le-mul-left, mul-le-mul-right, le-trans}
 use native.Mathlib.Omega.{arith}
 use lib.Dec.{eqb}
 use lib.ListN.{length, getD, replicate}
@@ -59,7 +59,7 @@ use Rattle.fares.proofs.RecordsApplied.{order-only}
 use Rattle.fares.proofs.PermittedMeaning.{not-above, by-one, one-amount, leaves-some, applying-permitted}
 use Rattle.fares.proofs.QuestionLimits.{limits-mean, means-limits}
 use Rattle.fares.proofs.CardSlots.{differ-means, means-differ}
-use Rattle.fares.proofs.Meaning.{fare-means, means-fare, no-fare-means, means-no-fare, part-bounded, fare-bounded, fare-at-most}
+use Rattle.fares.proofs.Meaning.{fare-means, means-fare, no-fare-means, means-no-fare, part-bounded, fare-bounded}
 use Rattle.fares.proofs.OneCard.{fare-is}
 use Rattle.fares.proofs.CardOrder.{any-order}
 use Rattle.fares.proofs.Computed.{fare-figures-hold}
@@ -261,14 +261,14 @@ pub the-bounds-by-the-cards : upTo (λ cards. 99 * (999999 + 998 * (1 + greater 
 unfolding upTo
 the-bounds-by-the-cards = refl
 
--- A fare is at most eight times the bound on its parts, and so at most eight times the greatest of these bounds: 795,951,288 cents. It fits 32 bits, and no number
--- refuses one that is too high.
-module _ (bundle : List ℕ) (R : List Rec) (q : Question) (fare : ℕ) (parts : List ℕ) (is-fare : IsFare bundle R q fare parts) where
+-- A fare that is told is at most eight times the bound on its parts, and so at most eight times the greatest of these bounds: 795,951,288 cents. It fits 32 bits, and
+-- no number refuses one that is too high.
+module _ (bundle : List ℕ) (q : Question) (fare : ℕ) (parts : List ℕ) (told : fareTells (fareOf bundle q) ≡ answers (fare ∷ parts)) where
   pub a-fare-is-bounded : fare ≤ 8 * partBound (length (cardsOf q))
-  a-fare-is-bounded = fare-bounded bundle R q fare parts is-fare
+  a-fare-is-bounded = fare-bounded bundle (recordsOf bundle) q fare parts (a-fare-is-what-the-records-say bundle q fare parts told)
 
   pub a-fare-is-at-most-eight-greatest-parts : fare ≤ 8 * greatestPart
-  a-fare-is-at-most-eight-greatest-parts = fare-at-most bundle R q fare parts is-fare
+  a-fare-is-at-most-eight-greatest-parts = le-trans a-fare-is-bounded (mul-le-mul-left 8 (bound-most q))
 
   pub a-fare-fits-32-bits : fare ≤ 4294967295
   a-fare-fits-32-bits = le-trans a-fare-is-at-most-eight-greatest-parts (omega arith)
