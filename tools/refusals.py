@@ -9,8 +9,9 @@ GONE = ({"number": "16", "C": "FARE_TOO_HIGH", "Rust": "FareTooHigh"},)
 
 
 def rows_of(path):
-    """The rows of a list that is separated by tabs, each by the names in its first line."""
-    with open(path, newline="", encoding="utf-8") as file:
+    """The rows of a list that is separated by tabs, each by the names in its first line. Spreadsheets may put a mark
+    before it and end lines in their own way."""
+    with open(path, newline="", encoding="utf-8-sig") as file:
         return list(csv.DictReader(file, delimiter="\t", quoting=csv.QUOTE_NONE))
 
 
