@@ -23,10 +23,16 @@ class Told:
         return f"status {self.status}, wrote {self.wrote!r}, said {self.said!r}"
 
 
+def heed_interrupts():
+    """A command that was started in the background may ignore them, and so would all that it starts."""
+    signal.signal(signal.SIGINT, signal.SIG_DFL)
+
+
 def start(words, stdin=subprocess.DEVNULL, stdout=subprocess.PIPE, stderr=subprocess.PIPE, **more):
     """Starts a command in a group of its own, which can be ended as a whole."""
     words = [str(word) for word in words]
-    return subprocess.Popen(words, stdin=stdin, stdout=stdout, stderr=stderr, start_new_session=True, **more)
+    files = {"stdin": stdin, "stdout": stdout, "stderr": stderr}
+    return subprocess.Popen(words, **files, start_new_session=True, preexec_fn=heed_interrupts, **more)
 
 
 def end(process, data=None):
