@@ -4,7 +4,7 @@ import pathlib
 
 ROOT = pathlib.Path(__file__).resolve().parent.parent
 LIST = ROOT / "docs" / "refusals.tsv"
-# Told once, and never used again: neither the number nor its names.
+# These were in the list once. Neither such a number nor its names are used again.
 GONE = ({"number": "16", "C": "FARE_TOO_HIGH", "Rust": "FareTooHigh"},)
 
 

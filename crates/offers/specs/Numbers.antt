@@ -15,6 +15,7 @@ use Rattle.sales.specs.Balances.{balanceAnswer, totalAnswer}
 use Rattle.sales.specs.Reading.{countAnswer, entryAnswer, findAnswer}
 use Rattle.offers.specs.Answers.{Told, verdictTells, fareTells, receiptTells, sumTells, tallyTells, bookingTells}
 
+-- a number is one of these
 abbrev pub Among : List ℕ → ℕ → Type 0
 Among ns k = any (eqb k) ns ≡ true
 
