@@ -1,4 +1,4 @@
-"""The numbers of refusals: the one list, docs/refusals.tsv, those that are gone, and a function for C that tells texts."""
+"""The numbers of refusals: the one list, docs/refusals.tsv, those that are gone, and a function for C over texts."""
 import csv
 import pathlib
 
