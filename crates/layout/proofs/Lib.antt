@@ -1,5 +1,6 @@
 pub mod Figures
 pub mod Calendar
+pub mod MonthRule
 pub mod Tables
 pub mod Flags
 pub mod BrokenField

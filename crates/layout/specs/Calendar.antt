@@ -23,6 +23,10 @@ pub record Months : Type 0 where
   pub no-month-0 : (year : ℕ) → monthLength year 0 ≡ 0
   pub none-above-12 : (year month : ℕ) → 12 < month → monthLength year month ≡ 0
 
+-- a day of a month of a year, where months are so long
+abbrev pub DayBy : (ℕ → ℕ → ℕ) → (year month day : ℕ) → Type 0
+DayBy length year month day = (1 ≤ day) × (day ≤ length year month)
+
 -- A DAY is a day of a month of a year, written YYYYMMDD.
 pub record RealDay (d : ℕ) : Type 0 where
   pub year : ℕ
@@ -30,5 +34,5 @@ pub record RealDay (d : ℕ) : Type 0 where
   pub day : ℕ
   pub of-years : (1583 ≤ year) × (year ≤ 9999)
   pub of-year : (1 ≤ month) × (month ≤ 12)
-  pub of-month : (1 ≤ day) × (day ≤ monthLength year month)
+  pub of-month : DayBy monthLength year month day
   pub written : d ≡ year * 10000 + month * 100 + day

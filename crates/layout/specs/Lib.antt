@@ -2,6 +2,7 @@ pub mod Bytes
 pub mod Company
 pub mod Dates
 pub mod Calendar
+pub mod MonthRule
 pub mod Layout
 pub mod Fields
 pub mod Figures

@@ -14,23 +14,24 @@ fn is_leap_year(year: u32) -> bool
     year % 4 == 0
 }
 
-// The lengths of the months 1 to 12 in a year that is no leap year; there is no month 0.
-const MONTH_LENGTHS: [u32; 13] = [0, 31, 28, 31, 30, 31, 30, 31, 31, 30, 31, 30, 31];
-
-// How many days a month has, 0 where there is no such month.
+// How many days a month has, 0 where there is no such month. Up to July the odd months are long, from August on the even
+// ones.
 pub fn month_length(year: u32, month: u32) -> u32
     ensures { λ r. ⌜ r ≡ monthLength year month ⌝ }
 {
-    if 12 < month {
-        return 0;
-    }
     if month == 2 {
         if is_leap_year(year) {
             return 29;
         }
+        return 28;
     }
-    let m = month as usize;
-    MONTH_LENGTHS[m]
+    if month < 1 {
+        return 0;
+    }
+    if 12 < month {
+        return 0;
+    }
+    30 + (month + month / 8) % 2
 }
 
 // Whether a number YYYYMMDD is a real day of the years 1583 to 9999.

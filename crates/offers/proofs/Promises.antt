@@ -20,12 +20,14 @@ use Rattle.common.proofs.Tests.{both-true, in-range}
 use Rattle.layout.specs.Layout.{CO, AR, ME, tables, tableAt, tableCount, lengthOf}
 use Rattle.layout.specs.Fields.{rowOf, bytesOf, ofOffers, transferorOf, offerOf, railwayOf}
 use Rattle.layout.specs.Rules.{keepsRow, keepsRules}
-use Rattle.layout.specs.Dates.{isDay}
-use Rattle.layout.specs.Calendar.{LeapYears, Months, RealDay}
+use Rattle.layout.specs.Dates.{monthLength, isDay}
+use Rattle.layout.specs.Calendar.{LeapYears, Months, DayBy, RealDay}
+use Rattle.layout.specs.MonthRule.{lengthByRule}
 use Rattle.layout.specs.Values.{Field, values, Means, Readings, Railways}
 use Rattle.layout.specs.Figures as layout
 use Rattle.layout.proofs.Tables.{transferor-stands, offer-stands, railway-stands}
 use Rattle.layout.proofs.Calendar.{leap-years, months, a-day-is-real, real-is-a-day}
+use Rattle.layout.proofs.MonthRule.{rule-agrees}
 use Rattle.layout.proofs.Values.{values-hold, kept-by-its-values}
 use Rattle.layout.proofs.Readings.{readings, railways}
 use Rattle.layout.proofs.Figures.{layout-figures-hold}
@@ -150,6 +152,9 @@ the-leap-years = leap-years
 
 pub the-months : Months
 the-months = months
+
+pub the-rule-and-the-table-agree : (year month day : ℕ) → DayBy lengthByRule year month day ↔ DayBy monthLength year month day
+the-rule-and-the-table-agree = rule-agrees
 
 pub a-day-is-a-real-one : (d : ℕ) → (isDay d ≡ true) ↔ RealDay d
 a-day-is-a-real-one d = (a-day-is-real d, real-is-a-day d)
