@@ -2,6 +2,7 @@
 
 mod cases;
 mod coverage;
+mod dates;
 mod driver;
 mod histories;
 mod saved;
@@ -39,6 +40,7 @@ pub fn run(seed: u64, count: u64, folder: &Path, driver: Option<&[String]>) -> i
         cases.run(&mut bench, index)?;
         bench.end_case();
     }
+    dates::run(&mut bench, count)?;
     if let Some(driver) = bench.driver.take() {
         driver.end()?;
     }
@@ -200,13 +202,19 @@ impl Bench {
 
     /// Holds the library to other reckonings as well.
     fn ask_held(&mut self, call: &Call, lent: &Lent, dues: &[Due]) -> io::Result<Compared> {
+        let compared = self.ask_unnoted(call, lent, dues)?;
+        self.coverage.note(call, lent, &compared.second);
+        Ok(compared)
+    }
+
+    /// What is met is for the caller to note.
+    fn ask_unnoted(&mut self, call: &Call, lent: &Lent, dues: &[Due]) -> io::Result<Compared> {
         let mut compared = compare(self.driver.as_mut(), call, lent)?;
         compared.hold(dues);
         if compared.difference.is_some() {
             self.save(call, lent, &compared)?;
         }
         self.calls += 1;
-        self.coverage.note(call, lent, &compared.second);
         Ok(compared)
     }
 

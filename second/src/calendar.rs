@@ -1,5 +1,8 @@
-//! Renders the date rule of "The bundle" and "Pricing"; a day is the number YYYYMMDD.
+//! Renders the date rule of "The bundle" and "Pricing", with the months of R-3; a day is the number YYYYMMDD.
 
+use std::ops::RangeInclusive;
+
+pub const YEARS: RangeInclusive<u64> = 1583..=9999;
 pub const FIRST_DAY: u64 = 15_830_101;
 pub const LAST_DAY: u64 = 99_991_231;
 
@@ -11,20 +14,20 @@ pub fn is_leap_year(year: u64) -> bool {
     }
 }
 
+/// None in a month that is none.
 pub fn days_in_month(year: u64, month: u64) -> u64 {
     match month {
+        1 | 3 | 5 | 7 | 8 | 10 | 12 => 31,
+        4 | 6 | 9 | 11 => 30,
         2 if is_leap_year(year) => 29,
         2 => 28,
-        4 | 6 | 9 | 11 => 30,
-        _ => 31,
+        _ => 0,
     }
 }
 
 pub fn is_real_day(day: u64) -> bool {
     let (year, month, day_of_month) = split(day);
-    (1583..=9999).contains(&year)
-        && (1..=12).contains(&month)
-        && (1..=days_in_month(year, month)).contains(&day_of_month)
+    YEARS.contains(&year) && (1..=days_in_month(year, month)).contains(&day_of_month)
 }
 
 pub fn join(year: u64, month: u64, day_of_month: u64) -> u64 {
@@ -71,6 +74,40 @@ mod tests {
         assert!(is_real_day(16000229));
         assert!(is_real_day(99960229));
         assert!(!is_real_day(20240230));
+    }
+
+    #[test]
+    fn all_months_but_february_have_thirty_days_or_one_more() {
+        let thirty = |month| [4, 6, 9, 11].contains(&month);
+        for year in [2023, 2024] {
+            for month in (1..=12).filter(|&month| month != 2) {
+                let due = if thirty(month) { 30 } else { 31 };
+                assert_eq!(days_in_month(year, month), due, "{year}, {month}");
+            }
+        }
+    }
+
+    #[test]
+    fn months_make_up_their_year() {
+        for (year, february, days) in [
+            (2023, 28, 365),
+            (2024, 29, 366),
+            (2100, 28, 365),
+            (2000, 29, 366),
+        ] {
+            assert_eq!(days_in_month(year, 2), february, "{year}");
+            let all: u64 = (1..=12).map(|month| days_in_month(year, month)).sum();
+            assert_eq!(all, days, "{year}");
+        }
+    }
+
+    #[test]
+    fn a_month_that_is_none_has_no_days() {
+        for month in [0, 13, 14, 50, 99, 258, 1 << 32 | 1, u64::MAX] {
+            for year in [2023, 2024] {
+                assert_eq!(days_in_month(year, month), 0, "{year}, {month}");
+            }
+        }
     }
 
     #[test]

@@ -6,6 +6,8 @@ pub mod cards;
 pub mod corpus;
 pub mod crowded;
 pub mod damage;
+pub mod dated;
+pub mod dates;
 pub mod dearest;
 pub mod drafts;
 pub mod histories;

@@ -1,4 +1,4 @@
-//! Independent second program: document 01 as of document 02 leave it, by section and by request.
+//! Independent second program: document 01 as of document 02 leave it, by section and by request.
 
 pub mod against;
 pub mod book;

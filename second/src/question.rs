@@ -94,7 +94,6 @@ pub fn is_railway(number: u64) -> bool {
 }
 
 /// Asks for offer 42 on a day of 2024, which the plain records serve.
-#[cfg(test)]
 pub fn asked(persons: u64, cards: &[u64], legs: &[(u64, u64)]) -> Question {
     let mut question = Question {
         offer: 42,

@@ -1,5 +1,6 @@
 //! Renders "Numbers that turn work away" as a table of what a run has met.
 
+mod months;
 mod readings;
 
 use std::collections::BTreeMap;
@@ -366,6 +367,7 @@ fn every_point() -> Vec<Point> {
     groups.extend(groups_of_pricing());
     groups.extend(groups_of_cards());
     groups.extend(groups_of_arguments());
+    groups.extend(months::groups());
     let points_of = |(group, items): (String, Vec<String>)| {
         let point = move |item| (group.clone(), item);
         items.into_iter().map(point).collect::<Vec<Point>>()
