@@ -19,6 +19,13 @@ const struct recipe BY_TABLE = {"by table", 4, 4, 1, 0, 3, 0, 1};
 const struct recipe OWN_RAILWAYS = {"own railways", 4, 4, 4, 0, 3, 1, 1};
 const struct recipe MANY_OFFERS = {"many offers", 1, 1, 0, 0, 1, 0, 1};
 const struct recipe *const TIMED[TIMED_RECIPES] = {&TEXT_HEAVY, &CO_HEAVY, &AR_HEAVY, &BY_TABLE, &OWN_RAILWAYS, &MANY_OFFERS};
+const size_t TIMED_SIZE[TIMED_SIZES] = {64 * KIB, 256 * KIB, 1024 * KIB};
+
+const char *words_of(const struct bundle *b, struct recipe recipe, size_t size) {
+    static char words[80];
+    snprintf(words, sizeof words, "%s, %zu KiB, %zu records", recipe.name, size / KIB, b->records);
+    return words;
+}
 
 /* Fields 5 to 10 of an AR record: discount, whether it is applied together with others, rating, companion, rounding and factor. The first
  * code's are those of every recipe. */

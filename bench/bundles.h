@@ -5,7 +5,7 @@
 #include <stddef.h>
 #include <stdint.h>
 
-enum { BUNDLE_LIMIT = 1048576, BUNDLE_DAY = 20240615, BUNDLE_CODES = 999 };
+enum { KIB = 1024, BUNDLE_LIMIT = 1024 * KIB, BUNDLE_DAY = 20240615, BUNDLE_CODES = 999 };
 
 struct bundle {
     uint8_t bytes[BUNDLE_LIMIT + 1];
@@ -28,12 +28,16 @@ extern const struct recipe TEXT_HEAVY, CO_HEAVY, AR_HEAVY, MIXED, FOUR_CARDS;
  * many offers with one CO and one AR each. */
 extern const struct recipe BY_TABLE, OWN_RAILWAYS, MANY_OFFERS;
 
-/* Those on which the verdict is timed. */
-enum { TIMED_RECIPES = 6 };
+/* Those on which the verdict is timed, and the sizes. */
+enum { TIMED_RECIPES = 6, TIMED_SIZES = 3 };
 extern const struct recipe *const TIMED[TIMED_RECIPES];
+extern const size_t TIMED_SIZE[TIMED_SIZES];
 
 /* Fills `size` bytes as far as whole records do, by table as far as whole offers do. Offers count from 1, codes too. The bundle is sorted. */
 void make_bundle(struct bundle *b, struct recipe recipe, size_t size);
+
+/* What a made bundle is, in words that stand until the next call. */
+const char *words_of(const struct bundle *b, struct recipe recipe, size_t size);
 
 /* Whether the keys of each table rise through the bundle. */
 int is_sorted(const struct bundle *b);

@@ -7,7 +7,7 @@
 #include <stdlib.h>
 #include <string.h>
 
-enum { KIB = 1024, ASKED = 600, MOST_CARDS = 4 };
+enum { ASKED = 600, MOST_CARDS = 4 };
 
 static struct bundle bundle, broken;
 

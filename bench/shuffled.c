@@ -2,10 +2,9 @@
 #include "measure.h"
 #include "peers.h"
 
-#include <stdio.h>
 #include <stdlib.h>
 
-enum { KIB = 1024, SIZES = 2 };
+enum { SIZES = 2 };
 
 static struct bundle bundle;
 
@@ -13,9 +12,7 @@ static void compare_at(int runs, struct recipe recipe, size_t size) {
     make_bundle(&bundle, recipe, size);
     shuffle(&bundle);
     demand(!is_sorted(&bundle), "a shuffled bundle is sorted");
-    char what[80];
-    snprintf(what, sizeof what, "%s, %zu KiB, %zu records", recipe.name, size / KIB, bundle.records);
-    tell_verdict(runs, what, &bundle);
+    tell_verdict(runs, words_of(&bundle, recipe, size), &bundle);
 }
 
 int main(int argc, char **argv) {

@@ -7,7 +7,7 @@
 #include <stdio.h>
 #include <ucontext.h>
 
-enum { KIB = 1024, ROOM = 1024 * KIB / 8, LIMIT = 128 * KIB, ENTRIES = 255, TILL = 7, SIZES = 3 };
+enum { ROOM = 1024 * KIB / 8, LIMIT = 128 * KIB, ENTRIES = 255, TILL = 7, SIZES = 3 };
 
 static const uint64_t PAINT = 0xA5C3F00D5EED1E57u;
 static uint64_t painted[ROOM];

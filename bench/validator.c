@@ -85,11 +85,15 @@ long plain_number(const uint8_t *record, size_t start, size_t length) {
 
 static bool is_leap_year(long year) { return year % 400 == 0 || (year % 4 == 0 && year % 100 != 0); }
 
+static long month_length(long year, long month) {
+    if (month == 2) return is_leap_year(year) ? 29 : 28;
+    return month < 1 || month > 12 ? 0 : 30 + (month + month / 8) % 2;
+}
+
 int plain_is_day(long day) {
-    static const long MONTH_LENGTHS[13] = {0, 31, 28, 31, 30, 31, 30, 31, 31, 30, 31, 30, 31};
-    long year = day / 10000, month = day / 100 % 100, in_month = day % 100;
-    if (year < 1583 || year > 9999 || month < 1 || month > 12) return false;
-    return in_month >= 1 && in_month <= MONTH_LENGTHS[month] + (month == 2 && is_leap_year(year));
+    long year = day / 10000, in_month = day % 100;
+    if (year < 1583 || year > 9999) return false;
+    return in_month >= 1 && in_month <= month_length(year, day / 100 % 100);
 }
 
 static bool is_between(long value, long least, long most) { return value >= least && value <= most; }

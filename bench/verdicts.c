@@ -7,9 +7,8 @@
 #include <stdlib.h>
 #include <string.h>
 
-enum { KIB = 1024, SIZES = 3, DAMAGED_EACH = 50, DAMAGED = 3 * TIMED_RECIPES * DAMAGED_EACH };
+enum { DAMAGED_EACH = 50, DAMAGED = 3 * TIMED_RECIPES * DAMAGED_EACH };
 
-static const size_t SIZE_LIST[SIZES] = {64 * KIB, 256 * KIB, 1024 * KIB};
 static struct bundle bundle, broken;
 
 /* ---- the same answers */
@@ -50,13 +49,11 @@ static void read_once(void *with) {
 
 /* A bundle and the same one broken; says what it is. */
 static const char *make_both(struct recipe recipe, size_t size) {
-    static char what[80];
     make_bundle(&bundle, recipe, size);
     demand(is_sorted(&bundle), "a bundle made in the order of its keys is not");
     memcpy(&broken, &bundle, sizeof broken);
     break_last_field(&broken);
-    snprintf(what, sizeof what, "%s, %zu KiB, %zu records", recipe.name, size / KIB, bundle.records);
-    return what;
+    return words_of(&bundle, recipe, size);
 }
 
 static double time_of_check(int runs, verdict *by) { return time_of_verdict(runs, by, &broken, OFFERS_FIELD_BROKEN); }
@@ -71,14 +68,14 @@ static double compare_at(int runs, struct recipe recipe, size_t size) {
 }
 
 static void compare_check(int runs, struct recipe recipe) {
-    const char *what = make_both(recipe, SIZE_LIST[0]);
+    const char *what = make_both(recipe, TIMED_SIZE[0]);
     double took = time_of_check(runs, offers_verdict);
     tell(what, took, "plain C", time_of_check(runs, plain_verdict));
 }
 
 static void compare_recipe(int runs, struct recipe recipe) {
-    double took[SIZES];
-    for (int k = 0; k < SIZES; k++) took[k] = compare_at(runs, recipe, SIZE_LIST[k]);
+    double took[TIMED_SIZES];
+    for (int k = 0; k < TIMED_SIZES; k++) took[k] = compare_at(runs, recipe, TIMED_SIZE[k]);
     printf("growth of the engine's time, %s: x%.1f from 64 to 256 KiB, x%.1f from 256 KiB to 1 MiB\n", recipe.name, took[1] / took[0],
            took[2] / took[1]);
 }
