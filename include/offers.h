@@ -22,10 +22,10 @@ extern "C" {
 #endif
 
 /* The version of the engine. The first number rises where a program that was written before has to be changed. */
-#define OFFERS_VERSION "2.0.0"
+#define OFFERS_VERSION "2.0.1"
 #define OFFERS_VERSION_MAJOR 2
 #define OFFERS_VERSION_MINOR 0
-#define OFFERS_VERSION_PATCH 0
+#define OFFERS_VERSION_PATCH 1
 
 /* The numbers of refusals: when; place, detail (0 where nothing is said). A call tells the first that it comes to. */
 /* numbers: begin */
