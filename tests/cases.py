@@ -135,9 +135,47 @@ case("key-co", co({3: "1181"}) + re() + co() + re({2: "008"}) + co(), "NO 6 4 2"
 case("key-re", re() + co() + re(), "NO 6 2 0", "record 2 repeats the code of record 0")
 case("key-ar", co() + re() + ar({3: "1185"}) + ar() + ar({3: "1185"}), "NO 6 4 2", "record 4 repeats offer, railway and code of record 2")
 case("key-me", co() + me() + me({3: "1185"}) + me(), "NO 6 3 1", "record 3 repeats offer and railway of record 1")
-case("key-ignores-days", co() + co({42: "20250101", 44: "20251231"}), "NO 6 1 0", "days and discounts are no part of a key")
+case("key-other-version", co() + co({39: "010000", 43: "02"}), "NO 6 1 0", "versions and discounts are no part of a key")
 case("key-thrice", co() + co() + co(), "NO 6 1 0", "the first pair found: record 1 with record 0")
 case("key-two-pairs", co() + re() + re() + co(), "NO 6 2 1", "the first record that repeats a key is record 2, not 3")
+
+# 6, or not: summer and winter. A day that is the last of one period and the first of another is in both.
+SUMMER, WINTER = ("20240101", "20240531"), ("20240601", "20241231")
+
+
+def in_period(make, first_field, period, changed=None):
+    """A record of a table whose first day is that field, and whose last day is the field two further on."""
+    return make({**(changed or {}), first_field: period[0], first_field + 2: period[1]})
+
+
+def co_in(period, changed=None):
+    return in_period(co, 42, period, changed)
+
+
+for name, make, field, before in (("co", co, 42, b""), ("re", re, 9, b""), ("ar", ar, 11, co() + re()), ("me", me, 9, co())):
+    earlier = {"ar": 2, "me": 1}.get(name, 0)
+    summer, winter = in_period(make, field, SUMMER), in_period(make, field, WINTER)
+    touching = in_period(make, field, ("20240531", "20241231"))
+    late, nested = in_period(make, field, ("20241231", "20251231")), in_period(make, field, ("20240701", "20240731"))
+    accepted, refused = f"OK {earlier + 2}", f"NO 6 {earlier + 1} {earlier}"
+    case(f"season-{name}", before + summer + winter, accepted, "the winter's first day is the day after the summer's last")
+    case(f"season-{name}-winter-first", before + winter + summer, accepted, "the order of the periods does not count")
+    case(f"season-{name}-first-day-shared", before + summer + touching, refused, "31 May is in both")
+    case(f"season-{name}-last-day-shared", before + touching + summer, refused, "31 May is in both, the later period first")
+    case(f"season-{name}-end-of-year", before + winter + late, refused, "31 December is in both")
+    case(f"season-{name}-nested", before + winter + nested, refused, "July is in both")
+    case(f"season-{name}-around", before + nested + winter, refused, "July is in both, the shorter period first")
+    case(f"season-{name}-repeated", before + summer + winter + summer, f"NO 6 {earlier + 2} {earlier}", "the summer is there twice")
+
+FIRST, THIRD = co_in(("20240101", "20240331")), co_in(("20240701", "20240930"))
+case("season-not-transitive", FIRST + THIRD + co_in(("20240201", "20240831")), "NO 6 2 0", "February to August meets both, and the first counts")
+case("season-not-the-first-of-the-key", FIRST + THIRD + co_in(("20240801", "20241231")), "NO 6 2 1", "August to December meets the second alone")
+case("season-in-between", FIRST + THIRD + co_in(("20240401", "20240630")), "OK 3", "April to June is in neither")
+case("season-one-day", co_in(("20240601", "20240601")) + co_in(("20240602", "20240602")), "OK 2", "two days, a record each")
+case("season-same-day", co_in(("20240601", "20240601")) + co_in(("20240601", "20240601")), "NO 6 1 0", "one day, twice")
+case("season-years", b"".join(co_in((f"{year}0101", f"{year}1231")) for year in range(2020, 2030)), "OK 10", "ten years, a record each")
+case("season-other-railway", co_in(SUMMER) + co_in(SUMMER, {3: "1185"}), "OK 2", "another key may have the same period")
+case("season-link-off-its-days", co_in(WINTER, {33: "Y"}) + in_period(re, 9, SUMMER) + in_period(ar, 11, SUMMER), "OK 3", "links ignore the days")
 
 # 7: link missing.
 case("link-ar-re", co() + ar(), "NO 7 1 1", "no RE of the code")

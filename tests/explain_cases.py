@@ -6,7 +6,7 @@ written by hand and share nothing with crates/. Positions are counted from the l
 import re as patterns
 
 from cases import SAMPLE, SAMPLE_RECORDS
-from records import GOOD, ar, co, re
+from records import GOOD, ar, co, me, re
 
 END = "Only this first fault is told. Once it is mended there may be another."
 
@@ -220,7 +220,19 @@ FAMILY_RECORDS = [
     ar({3: "1181", 4: "021", 5: "025000", 6: "N", 7: "001", 9: "N", 10: "000"}),
 ]
 
-# The bundles of examples/, each with its lines. The refused ones are the sample with a change that the last lines tell.
+# A delivery for summer and winter: an offer and a card that change on 1 June, and a railway's own CO in July alone.
+SEASON_RECORDS = [
+    co({33: "Y", 37: "Y", 39: "010000", 44: "20240531"}),
+    co({33: "Y", 37: "Y", 39: "020000", 42: "20240601"}),
+    co({3: "1185", 39: "050000", 42: "20240701", 44: "20240731"}),
+    re({3: "Annual card", 11: "20240531"}),
+    re({3: "Annual card", 9: "20240601"}),
+    ar({5: "025000", 13: "20240531"}),
+    ar({5: "050000", 11: "20240601"}),
+    me({4: "Half price in July on railway 1185."}),
+]
+
+# The bundles of examples/, each with its lines. The refused ones are an accepted one with a change that the last lines tell.
 SAMPLES = {
     "sample": (
         SAMPLE,
@@ -261,12 +273,43 @@ Only this first fault is told. Once it is mended there may be another.
         b"".join(changed(7, ar({3: "1185", 4: "007", 5: "100000", 9: "-", 10: "001"}))),
         """\
 NO 6 7 6
-The record repeats the key of an earlier record.
+The record has the key of an earlier record, and the two periods overlap.
 Record 7, counted from 0, is of table AR (additional discounts): offer 00042, railway 1185, code 007.
 It starts with its mark at byte 1457 of the bundle, counted from 0.
 Record 6, at byte 1406 of the bundle, has the same key: offer 00042, railway 1185, code 007.
-A key may stand only once in its table; the days are no part of it.
-Keep one of the two. Records for different seasons under one key cannot stand together.
+Record 7 is valid from 20240101 to 20241231, both days included.
+Record 6 is valid from 20240101 to 20241231, both days included.
+The first day that is in both periods is 20240101.
+Records of one key may stand together only if no day is in two of their periods.
+Keep one of the two, or correct the first or the last day of one.
+Only this first fault is told. Once it is mended there may be another.
+""",
+    ),
+    "summer-and-winter": (
+        b"".join(SEASON_RECORDS),
+        """\
+OK 8
+The bundle is accepted: every record keeps the rules. Its records by table:
+CO (conditions): 3
+RE (types of discount): 2
+AR (additional discounts): 2
+ME (memo): 1
+""",
+    ),
+    # the summer of the CO ends a day too late
+    "overlapping-seasons": (
+        b"".join([co({33: "Y", 37: "Y", 39: "010000", 44: "20240601"})] + SEASON_RECORDS[1:]),
+        """\
+NO 6 1 0
+The record has the key of an earlier record, and the two periods overlap.
+Record 1, counted from 0, is of table CO (conditions): offer 00042, railway 0000.
+It starts with its mark at byte 157 of the bundle, counted from 0.
+Record 0, at byte 0 of the bundle, has the same key: offer 00042, railway 0000.
+Record 1 is valid from 20240601 to 20241231, both days included.
+Record 0 is valid from 20240101 to 20240601, both days included.
+The first day that is in both periods is 20240601.
+Records of one key may stand together only if no day is in two of their periods.
+Keep one of the two, or correct the first or the last day of one.
 Only this first fault is told. Once it is mended there may be another.
 """,
     ),

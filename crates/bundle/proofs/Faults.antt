@@ -25,7 +25,7 @@ use Rattle.layout.proofs.Tables.{unbroken-keeps}
 use Rattle.bundle.specs.Records.{Rec, noRec, stepOf, recordsOf, restOf}
 use Rattle.bundle.specs.Keys.{otherTransferor, clash, earlierOf}
 use Rattle.bundle.specs.Verdict.{limit, isUnknown, isShort, fieldChecks, endChecks, firstPass, recordChecks, secondPass, checks, verdictOf}
-use Rattle.bundle.specs.Meaning.{joined, recordAt, KeepsRules, SameKey}
+use Rattle.bundle.specs.Meaning.{joined, recordAt, KeepsRules, Clash}
 use Rattle.bundle.specs.Faults.{Cut, Breaks, OfOneTransferor, Fits, FirstLook, SecondLook, Fault}
 use Rattle.bundle.specs.Faults.{too-long, unknown-mark, too-short, breaks-a-field, other-transferor, repeats-a-key, lacks-a-link}
 use Rattle.bundle.specs.declared.walk.Step.{Step}
@@ -93,21 +93,21 @@ module _ (R : List Rec) (i : ℕ) where
       let a = one-clean _ 5 i 0 _ e in
       let b = one-clean _ 6 i _ _ (a .1) in
       let c = one-clean _ 7 i _ [] (b .1) in
-      record { of-one-transferor = same-transferor R r (a .0); of-new-key = no-clash R r i (b .0); linked = links-there R r (c .0) }
+      record { of-one-transferor = same-transferor R r (a .0); apart = no-clash R r i (b .0); linked = links-there R r (c .0) }
 
   fits-clean : r .table < tableCount → Fits R i → firstFault (recordChecks R i r) ≡ clean
   unfolding firstFault
-  fits-clean h f = rw (transferor-same R r (f .of-one-transferor), clash-none R r h i (f .of-new-key), there-links R r (f .linked))
+  fits-clean h f = rw (transferor-same R r (f .of-one-transferor), clash-none R r h i (f .apart), there-links R r (f .linked))
 
   first-clash : r .table < tableCount → ltb (earlierOf R i r) i ≡ true → let j = earlierOf R i r in
-      (j < i) × SameKey r (recordAt R j) × ((m : ℕ) → m < j → SameKey r (recordAt R m) → ⊥)
+      (j < i) × Clash r (recordAt R j) × ((m : ℕ) → m < j → Clash r (recordAt R m) → ⊥)
   unfolding earlierOf
   first-clash h e =
       let p : ℕ → Bool = λ j. clash r (recordAt R j) in
       let l = ltb-true (least p i) i e in
       (l, clash-means r _ h (passes p i l), λ m b k. never (means-clash r (recordAt R m) k) (before p i m b))
 
-  clash-first : r .table < tableCount → (j : ℕ) → j < i → SameKey r (recordAt R j) → ((m : ℕ) → m < j → SameKey r (recordAt R m) → ⊥) → earlierOf R i r ≡ j
+  clash-first : r .table < tableCount → (j : ℕ) → j < i → Clash r (recordAt R j) → ((m : ℕ) → m < j → Clash r (recordAt R m) → ⊥) → earlierOf R i r ≡ j
   unfolding earlierOf
   clash-first h j l c n =
       let p : ℕ → Bool = λ k. clash r (recordAt R k) in

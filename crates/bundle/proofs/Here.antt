@@ -254,16 +254,16 @@ module _ (s : List ℕ) where
       let f = found-at (h .0) j (h .1) l (stepOf (drop (h .0) s)) refl .3 in
       rw (f .place) (f .body, omega (arith, f .starts, f .ends, f .inside))
 
-  -- A PLACE, or where there is no such record the bundle's start, is a position of the walk
-  pub here-at-place : (i : ℕ) → (j : ℕ) × Here s (getD (placesOf s) i 0) j
-  here-at-place i = ⊎-elim there beyond (side i (length (recordsOf s)))
-    where
-      there : i < length (recordsOf s) → (j : ℕ) × Here s (getD (placesOf s) i 0) j
-      there l =
-          let h = here-each i (omega arith) in
-          let f = found-at (h .0) i (h .1) l (stepOf (drop (h .0) s)) refl .3 in
-          (i, rw (f .place) (h .1))
+  -- A PLACE is a position of the walk,
+  pub here-of : (i : ℕ) → i < length (recordsOf s) → Here s (getD (placesOf s) i 0) i
+  here-of i l =
+      let h = here-each i (omega arith) in
+      rw (found-at (h .0) i (h .1) l (stepOf (drop (h .0) s)) refl .3 .place) (h .1)
 
+  -- and so is the bundle's start, where there is no such record
+  pub here-at-place : (i : ℕ) → (j : ℕ) × Here s (getD (placesOf s) i 0) j
+  here-at-place i = ⊎-elim (λ l. (i, here-of i l)) beyond (side i (length (recordsOf s)))
+    where
       beyond : length (recordsOf s) ≤ i → (j : ℕ) × Here s (getD (placesOf s) i 0) j
       beyond l = (0, rw (List·getD-eq-default (placesOf s) 0 {n = i} (omega (arith, places-length s))) (here-start s))
 

@@ -1,14 +1,12 @@
 pub mod Steps
 pub mod Here
-pub mod SeenNumbers
+pub mod KeptPlaces
 pub mod HintedPlaces
 pub mod PassLaws
-pub mod ChoiceLaws
 pub mod CutAndJoin
 pub mod KeyMeaning
 pub mod LinkMeaning
 pub mod Meaning
 pub mod Faults
-pub mod Unique
-pub mod Chosen
+pub mod Before
 pub mod Computed

@@ -23,7 +23,7 @@ use Rattle.layout.proofs.Tables.{unbroken-keeps}
 use Rattle.bundle.specs.Records.{Rec, noRec, recordsOf, restOf}
 use Rattle.bundle.specs.Keys.{otherTransferor, clash, earlierOf}
 use Rattle.bundle.specs.Verdict.{limit, fieldChecks, endChecks, firstPass, recordChecks, secondPass, checks, verdictOf}
-use Rattle.bundle.specs.Meaning.{joined, recordAt, KeepsRules, SameKey, Good}
+use Rattle.bundle.specs.Meaning.{joined, recordAt, KeepsRules, Clash, Good}
 use Rattle.bundle.specs.declared.Judgement.the-variants.{Accepted}
 use Rattle.bundle.proofs.Steps.{nothing-there}
 use Rattle.bundle.proofs.Here.{Over, unknown, short}
@@ -46,11 +46,11 @@ module _ (R : List Rec) (r : Rec) where
   unfolding otherTransferor
   transferor-same e = rw (is-same _ _ e)
 
-  pub no-clash : (i : ℕ) → ltb (earlierOf R i r) i ≡ false → (j : ℕ) → j < i → SameKey r (recordAt R j) → ⊥
+  pub no-clash : (i : ℕ) → ltb (earlierOf R i r) i ≡ false → (j : ℕ) → j < i → Clash r (recordAt R j) → ⊥
   unfolding earlierOf
   no-clash i e j l k = never (means-clash r (recordAt R j) k) (finds-none (λ k. clash r (recordAt R k)) i e j l)
 
-  pub clash-none : r .table < tableCount → (i : ℕ) → ((j : ℕ) → j < i → SameKey r (recordAt R j) → ⊥) → ltb (earlierOf R i r) i ≡ false
+  pub clash-none : r .table < tableCount → (i : ℕ) → ((j : ℕ) → j < i → Clash r (recordAt R j) → ⊥) → ltb (earlierOf R i r) i ≡ false
   unfolding earlierOf
   clash-none h i f = none-finds (λ k. clash r (recordAt R k)) i (λ j l. refuted (clash r (recordAt R j)) (λ e. f j l (clash-means r (recordAt R j) h e)))
 
@@ -105,7 +105,7 @@ module _ (s : List ℕ) where
           whole = cut-whole s;
           fields = fields;
           transferors = λ i l. same-transferor R (recordAt R i) (one-clean _ 5 i 0 _ (beside i l) .0);
-          keys = λ i j l. no-clash R (recordAt R i) i (one-clean _ 6 i _ _ (one-clean _ 5 i 0 _ (beside i l) .1) .0) j;
+          apart = λ i j l. no-clash R (recordAt R i) i (one-clean _ 6 i _ _ (one-clean _ 5 i 0 _ (beside i l) .1) .0) j;
           linked = λ i l. links-there R (recordAt R i) (one-clean _ 7 i _ _ (one-clean _ 6 i _ _ (one-clean _ 5 i 0 _ (beside i l) .1) .1) .0);
         }
 
@@ -123,7 +123,7 @@ module _ (s : List ℕ) (R : List Rec) (g : Good s R) where
   unfolding firstFault
   record-clean i l =
       let r = recordAt R i in
-      rw (transferor-same R r (g .transferors i l), clash-none R r (g .whole i l .named) i (λ j m. g .keys i j l m), there-links R r (g .linked i l))
+      rw (transferor-same R r (g .transferors i l), clash-none R r (g .whole i l .named) i (λ j m. g .apart i j l m), there-links R r (g .linked i l))
 
   first-clean : firstFault (firstPass s) ≡ clean
   unfolding firstPass firstFault

@@ -1,5 +1,5 @@
--- WHAT A REFUSAL OF A BUNDLE MEANS (document 01, 'Keys and links' and 'Numbers that turn work away'): its record breaks that rule, and no earlier one, in the
--- order of checks, breaks any. There is no walk and no search in it.
+-- WHAT A REFUSAL OF A BUNDLE MEANS (document 01, 'Keys and links' and 'Numbers that turn work away', and document 02, R-2): its record breaks that rule, and
+-- no earlier one, in the order of checks, breaks any. There is no walk and no search in it.
 -- Assumes nothing.
 use Prim.Native.Nat.{ℕ, _≤_, _<_}
 use mathlib.Core.Path.{_≡_}
@@ -14,7 +14,7 @@ use Rattle.layout.specs.Fields.{byteOf, transferorOf}
 use Rattle.layout.specs.Rules.{keepsRow}
 use Rattle.layout.specs.declared.rows.Row.{Row}
 use Rattle.bundle.specs.Records.{Rec}
-use Rattle.bundle.specs.Meaning.{joined, recordAt, IsRecord, KeepsRules, SameKey, There, OfCode, OfOffer, Serves, Linked}
+use Rattle.bundle.specs.Meaning.{joined, recordAt, IsRecord, KeepsRules, Clash, There, OfCode, OfOffer, Serves, Linked}
 
 -- BYTES THAT ARE NO RECORD: the mark of no table stands there; or that of one does, with too few bytes behind it
 abbrev pub NoMark : List ℕ → Type 0
@@ -48,16 +48,16 @@ pub data Missing (R : List Rec) (r : Rec) : ℕ → Type 0 where
   no-me : r .table ≡ CO → (byteOf CO 33 (r .body) ≡ byte-Y → There R (Serves AR r)) → byteOf CO 37 (r .body) ≡ byte-Y → (There R (Serves ME r) → ⊥)
       → Missing R r 4
 
--- RECORD i BESIDE THE OTHERS: the first record's transferor; no earlier record of its key; every link
+-- RECORD i BESIDE THE OTHERS: the first record's transferor; no earlier record that it may not stand with; every link
 abbrev pub OfOneTransferor : List Rec → ℕ → Type 0
 OfOneTransferor R i = transferorOf (recordAt R i .body) ≡ transferorOf (recordAt R 0 .body)
 
-abbrev pub OfNewKey : List Rec → ℕ → Type 0
-OfNewKey R i = (j : ℕ) → j < i → SameKey (recordAt R i) (recordAt R j) → ⊥
+abbrev pub Apart : List Rec → ℕ → Type 0
+Apart R i = (j : ℕ) → j < i → Clash (recordAt R i) (recordAt R j) → ⊥
 
 pub record Fits (R : List Rec) (i : ℕ) : Type 0 where
   pub of-one-transferor : OfOneTransferor R i
-  pub of-new-key : OfNewKey R i
+  pub apart : Apart R i
   pub linked : Linked R (recordAt R i)
 
 -- "First the records are checked from record 0, each for 2, then 3, then 4; only if none fails are they gone through again, from record 0, each record for 5,
@@ -80,6 +80,6 @@ pub data Fault (s : List ℕ) (R : List Rec) (rest : List ℕ) : ℕ → ℕ →
   too-short : FirstLook s R (length R) → TooShort rest → Fault s R rest 3 (length R) 0
   breaks-a-field : (i f : ℕ) → FirstLook s R i → i < length R → Breaks (recordAt R i) f → Fault s R rest 4 i f
   other-transferor : (i : ℕ) → SecondLook s R i → (OfOneTransferor R i → ⊥) → Fault s R rest 5 i 0
-  repeats-a-key : (i j : ℕ) → SecondLook s R i → OfOneTransferor R i → j < i → SameKey (recordAt R i) (recordAt R j)
-      → ((m : ℕ) → m < j → SameKey (recordAt R i) (recordAt R m) → ⊥) → Fault s R rest 6 i j
-  lacks-a-link : (i d : ℕ) → SecondLook s R i → OfOneTransferor R i → OfNewKey R i → Missing R (recordAt R i) d → Fault s R rest 7 i d
+  repeats-a-key : (i j : ℕ) → SecondLook s R i → OfOneTransferor R i → j < i → Clash (recordAt R i) (recordAt R j)
+      → ((m : ℕ) → m < j → Clash (recordAt R i) (recordAt R m) → ⊥) → Fault s R rest 6 i j
+  lacks-a-link : (i d : ℕ) → SecondLook s R i → OfOneTransferor R i → Apart R i → Missing R (recordAt R i) d → Fault s R rest 7 i d

@@ -1,4 +1,5 @@
--- Verdicts that document 01 gives, and a few that stand for its rules, in one list: each is asked of the engine itself, on a bundle that is written out.
+-- Verdicts that document 01 gives, and a few that stand for its rules and for those of document 02, in one list: each is asked of the engine itself, on a
+-- bundle that is written out.
 -- Assumes nothing.
 use Prim.Native.Nat.{ℕ}
 use mathlib.Core.Path.{_≡_}
@@ -7,7 +8,7 @@ use lib.ListN.{take, drop}
 use Rattle.common.specs.Checks.{refuse}
 use Rattle.layout.specs.Bytes.{byte-plus, byte-N, byte-Y}
 use Rattle.bundle.specs.Verdict.{verdictOf}
-use Rattle.bundle.specs.Samples.{digits, grant, conditions, named, cardName, memo, card}
+use Rattle.bundle.specs.Samples.{digits, period, grant, conditionsIn, conditions, namedIn, named, cardName, memo, card}
 use Rattle.bundle.specs.declared.Judgement.the-variants.{Accepted, Refused}
 
 -- a bundle is accepted with so many records; or refused with a number, a place and a detail
@@ -25,6 +26,13 @@ quarter railway flag-33 = conditions railway flag-33 (grant 25000 byte-N 0)
 
 abbrev pub cards : List ℕ
 cards = card 30000 byte-plus 50
+
+-- that CO, and the RE of a card, in a part of the year
+abbrev pub season : ℕ → ℕ → List ℕ
+season first last = conditionsIn (period first last) 1185 byte-N (grant 25000 byte-N 0)
+
+abbrev pub cardSeason : ℕ → ℕ → List ℕ
+cardSeason first last = namedIn (period first last) 7
 
 abbrev pub figures : List Figure
 figures =
@@ -48,4 +56,14 @@ figures =
     accepted (quarter 1185 byte-N ++ memo 1185) 2 ∷
     refused (cardName ++ cardName) 6 1 0 ∷
     accepted (cardName ++ named 8) 2 ∷
+    -- summer and winter: one period ends the day before the other begins, whichever is first; it ends on that day
+    accepted (season 20240101 20240531 ++ season 20240601 20241231) 2 ∷
+    accepted (season 20240601 20241231 ++ season 20240101 20240531) 2 ∷
+    refused (season 20240101 20240601 ++ season 20240601 20241231) 6 1 0 ∷
+    refused (season 20240601 20241231 ++ season 20240101 20240601) 6 1 0 ∷
+    accepted (cardSeason 20240101 20240531 ++ cardSeason 20240601 20241231) 2 ∷
+    refused (cardSeason 20240101 20241231 ++ cardSeason 20240601 20240630) 6 1 0 ∷
+    -- the first of the records that it shares a day with, which need not be the first of its key: February to August, and August to December
+    refused (season 20240101 20240331 ++ (season 20240701 20240930 ++ season 20240201 20240831)) 6 2 0 ∷
+    refused (season 20240101 20240331 ++ (season 20240701 20240930 ++ season 20240801 20241231)) 6 2 1 ∷
     []

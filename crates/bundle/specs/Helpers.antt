@@ -2,23 +2,16 @@
 -- is stated with it.
 -- Assumes nothing.
 use Prim.Native.Nat.{ℕ, zero, suc, _+_}
-use mathlib.Core.Bool.{Bool, cond}
+use mathlib.Core.Bool.{Bool}
 use mathlib.Core.List.{List, [], _∷_}
-use lib.Dec.{eqb, leb}
-use lib.ListN.{length, getD, take, drop}
+use lib.ListN.{length, take, drop}
 use Rattle.common.specs.Lists.{same}
 use Rattle.common.specs.Checks.{firstFault}
-use Rattle.layout.specs.Company.{companyOf, isAllRailways}
-use Rattle.layout.specs.Fields.{railwayOf, holdsDay}
 use Rattle.bundle.specs.Records.{Rec, stepOf, ifWhole, between, recordsOf}
-use Rattle.bundle.specs.Choice.{isOf}
 use Rattle.bundle.specs.Verdict.{firstPass, secondPass, judged}
 use Rattle.bundle.specs.declared.Judgement.{Judgement}
 use Rattle.bundle.specs.declared.walk.Step.{Step}
 use Rattle.bundle.specs.declared.walk.Step.the-variants.{Unknown, Short, Whole}
-use Rattle.bundle.specs.declared.choice.Wanted.{Wanted}
-use Rattle.bundle.specs.declared.choice.Choice.{Choice}
-use Rattle.bundle.specs.declared.choice.Choice.the-variants.{At, NotThatDay, Nothing}
 
 -- the mark of two letters stands there
 unfoldable pub isMark : ℕ → ℕ → List ℕ → Bool
@@ -48,24 +41,6 @@ bodyAt s p = ifWhole (stepAt s p) [] (λ t start next. between start next s)
 -- the place behind it, the bundle's start where no whole record starts there
 unfoldable pub placeBehind : List ℕ → ℕ → ℕ
 placeBehind s p = ifWhole (stepAt s p) 0 (λ t start next. next)
-
--- a choice by the place of its mark
-abbrev pub atPlace : List ℕ → Choice → Choice
-atPlace s (At i) = At (getD (placesOf s) i 0)
-atPlace s NotThatDay = NotThatDay
-atPlace s Nothing = Nothing
-
--- 2 for the railway's own record, 1 for the one for all railways, 0 for another
-unfoldable pub fitOf : Wanted → Rec → ℕ
-fitOf w r =
-    cond (isOf w r) (cond (eqb (companyOf (railwayOf (r .body))) (w .railway)) 2 (cond (isAllRailways (railwayOf (r .body))) 1 0)) 0
-
-unfoldable pub firstGeneral : ℕ → ℕ → ℕ → ℕ → ℕ
-firstGeneral none general f at = cond (eqb general none) (cond (eqb f 1) at none) general
-
-unfoldable pub onDayAt : List ℕ → ℕ → Wanted → Choice
-onDayAt s place w =
-    cond (leb (length s) place) Nothing (cond (holdsDay (w .table) (bodyAt s place) (w .day)) (At place) NotThatDay)
 
 -- what each pass tells by itself
 abbrev pub firstTells : List ℕ → Judgement

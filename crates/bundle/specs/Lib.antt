@@ -4,9 +4,9 @@ pub mod Links
 pub mod Verdict
 pub mod Meaning
 pub mod Faults
-pub mod Choice
-pub mod Chosen
+pub mod Before
 pub mod Helpers
 pub mod Hints
+pub mod Apart
 pub mod Samples
 pub mod Figures

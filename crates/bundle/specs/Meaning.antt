@@ -1,4 +1,5 @@
--- What a verdict means, with no walk and no search in it: the bundle is some records one after the other, and these keep document 01's rules.
+-- What a verdict means, with no walk and no search in it: the bundle is some records one after the other, and these keep the rules of document 01 and of
+-- document 02, R-2.
 -- Assumes nothing.
 use Prim.Native.Nat.{ℕ, _≤_, _<_}
 use mathlib.Core.Path.{_≡_}
@@ -10,6 +11,7 @@ use Rattle.layout.specs.Bytes.{byte-0, byte-Y}
 use Rattle.layout.specs.Layout.{CO, RE, AR, ME, tableCount, tableAt, lengthOf}
 use Rattle.layout.specs.Fields.{bytesOf, byteOf, transferorOf}
 use Rattle.layout.specs.Rules.{keepsRules}
+use Rattle.layout.specs.Values.{InPeriod, Share}
 use Rattle.bundle.specs.Records.{Rec, noRec}
 
 -- the bytes of some records: each behind its mark, with nothing between them
@@ -38,6 +40,14 @@ pub data SameKey (r x : Rec) : Type 0 where
   both-re : r .table ≡ RE → x .table ≡ RE → Alike RE 2 r x → SameKey r x
   both-ar : r .table ≡ AR → x .table ≡ AR → Alike AR 2 r x → Alike AR 3 r x → Alike AR 4 r x → SameKey r x
   both-me : r .table ≡ ME → x .table ≡ ME → Alike ME 2 r x → Alike ME 3 r x → SameKey r x
+
+-- a record of table t holds a day
+abbrev pub HoldsDay : ℕ → ℕ → Rec → Type 0
+HoldsDay t day r = InPeriod t day (r .body)
+
+-- TWO RECORDS THAT MAY NOT STAND TOGETHER: "Two records of the same codes are allowed when their periods share no day"
+abbrev pub Clash : Rec → Rec → Type 0
+Clash r x = SameKey r x × Share (r .table) (r .body) (x .body)
 
 -- one of the records is such
 abbrev pub There : List Rec → (Rec → Type 0) → Type 0
@@ -69,12 +79,15 @@ pub record Linked (R : List Rec) (r : Rec) : Type 0 where
   pub co-ar : r .table ≡ CO → byteOf CO 33 (r .body) ≡ byte-Y → There R (Serves AR r)
   pub co-me : r .table ≡ CO → byteOf CO 37 (r .body) ≡ byte-Y → There R (Serves ME r)
 
--- the bytes s are the records R, and these keep every rule
-pub record Good (s : List ℕ) (R : List Rec) : Type 0 where
+-- the bytes s are the records R, and these keep every rule: fields, transferors, links, and no two stand together that are such
+pub record GoodBy (Barred : Rec → Rec → Type 0) (s : List ℕ) (R : List Rec) : Type 0 where
   pub size : length s ≤ 1048576
   pub bytes : s ≡ joined R
   pub whole : (i : ℕ) → i < length R → IsRecord (recordAt R i)
   pub fields : (i : ℕ) → i < length R → KeepsRules (recordAt R i)
   pub transferors : (i : ℕ) → i < length R → transferorOf (recordAt R i .body) ≡ transferorOf (recordAt R 0 .body)
-  pub keys : (i j : ℕ) → i < length R → j < i → SameKey (recordAt R i) (recordAt R j) → ⊥
+  pub apart : (i j : ℕ) → i < length R → j < i → Barred (recordAt R i) (recordAt R j) → ⊥
   pub linked : (i : ℕ) → i < length R → Linked R (recordAt R i)
+
+abbrev pub Good : List ℕ → List Rec → Type 0
+Good = GoodBy Clash

@@ -19,5 +19,8 @@ pub fn clashes<'a>(t: u32, r: &'a [u8], u: u32, q: &'a [u8]) -> bool
     if t != u {
         return false;
     }
-    layout::fields::same_key(t, r, q)
+    if !layout::fields::same_key(t, r, q) {
+        return false;
+    }
+    layout::fields::share_day(t, r, q)
 }

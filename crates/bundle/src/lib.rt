@@ -2,7 +2,7 @@
 ghost use mathlib.Core.Path.{_≡_};
 ghost use Rattle.bundle.specs.Verdict.{verdictOf};
 
-pub mod choice;
+mod apart;
 mod hints;
 mod keys;
 mod links;

@@ -39,12 +39,17 @@ pub fn first_pass(bundle: &[u8]) -> Judgement
 }
 
 // Each record beside the others: 5, then 6, then 7, before the next record.
-pub fn second_pass(bundle: &[u8], marks: &mut [u8], hints: &mut [u32]) -> Judgement
+pub fn second_pass(
+    bundle: &[u8],
+    heads: &mut [u8],
+    lows: &mut [u16],
+    hints: &mut [u32],
+) -> Judgement
     requires { ⌜ Hinted (now bundle) (now hints) ⌝ }
     ensures { λ r. ⌜ r ≡ secondTells (now (bundle .entry)) ⌝ }
 {
     let transferor = super::keys::first_transferor(bundle);
-    let mut tops = [0u64; layout::TABLES as usize];
+    let mut is_kept = true;
     let mut at = 0;
     let mut i = 0;
     let verdict = 'records: loop {
@@ -56,10 +61,12 @@ pub fn second_pass(bundle: &[u8], marks: &mut [u8], hints: &mut [u32]) -> Judgem
         if !common::same_bytes(layout::fields::transferor(r), transferor) {
             break 'records Judgement::Refused(common::refuse(5, i, 0));
         }
-        let number = layout::fields::key_number(table, r);
         let mut p = 0;
         let mut j = 0;
-        if seen::is_new(&mut tops, marks, table, number) {
+        if is_kept {
+            is_kept = super::apart::is_apart(bundle, heads, lows, table, r, at);
+        }
+        if is_kept {
             p = at;
             j = i;
         }

@@ -5,7 +5,7 @@ ghost use Rattle.bundle.specs.Helpers.{secondTells};
 ghost use Rattle.bundle.specs.Hints.{Hinted};
 use super::Judgement;
 
-// Up to so many records have no room, up to so many some, and up to so many more.
+// Up to so many records have little room, and none for hints; up to so many some, and up to so many more.
 const FEW: usize = 32;
 
 const SOME: usize = 256;
@@ -17,7 +17,7 @@ pub fn second_pass(bundle: &[u8], records: usize) -> Judgement
     ensures { λ r. ⌜ r ≡ secondTells (now (bundle .entry)) ⌝ }
 {
     if records <= FEW {
-        return with_none(bundle);
+        return with_little(bundle);
     }
     if records <= SOME {
         return with_some(bundle);
@@ -29,43 +29,47 @@ pub fn second_pass(bundle: &[u8], records: usize) -> Judgement
 }
 
 // One function a size: the length of an array is part of its type, and the arrays of one function would each take stack of their own.
-fn with_none(bundle: &[u8]) -> Judgement
+fn with_little(bundle: &[u8]) -> Judgement
     ensures { λ r. ⌜ r ≡ secondTells (now (bundle .entry)) ⌝ }
 {
-    let mut marks = [0u8; 0];
+    let mut heads = [0u8; 67];
+    let mut lows = [0u16; 67];
     let mut hints = [0u32; 0];
-    super::passes::second_pass(bundle, &mut marks, &mut hints)
+    super::passes::second_pass(bundle, &mut heads, &mut lows, &mut hints)
 }
 
 fn with_some(bundle: &[u8]) -> Judgement
     ensures { λ r. ⌜ r ≡ secondTells (now (bundle .entry)) ⌝ }
 {
-    let mut marks = [0u8; 2048];
+    let mut heads = [0u8; 521];
+    let mut lows = [0u16; 521];
     let mut hints = [0u32; 1024];
-    noted(bundle, &mut marks, &mut hints)
+    noted(bundle, &mut heads, &mut lows, &mut hints)
 }
 
 fn with_more(bundle: &[u8]) -> Judgement
     ensures { λ r. ⌜ r ≡ secondTells (now (bundle .entry)) ⌝ }
 {
-    let mut marks = [0u8; 8192];
+    let mut heads = [0u8; 4099];
+    let mut lows = [0u16; 4099];
     let mut hints = [0u32; 4096];
-    noted(bundle, &mut marks, &mut hints)
+    noted(bundle, &mut heads, &mut lows, &mut hints)
 }
 
 fn with_much(bundle: &[u8]) -> Judgement
     ensures { λ r. ⌜ r ≡ secondTells (now (bundle .entry)) ⌝ }
 {
-    let mut marks = [0u8; 65536];
+    let mut heads = [0u8; 26003];
+    let mut lows = [0u16; 26003];
     let mut hints = [0u32; 12288];
-    noted(bundle, &mut marks, &mut hints)
+    noted(bundle, &mut heads, &mut lows, &mut hints)
 }
 
 // The second pass, once it is noted where each record stands.
-fn noted(bundle: &[u8], marks: &mut [u8], hints: &mut [u32]) -> Judgement
+fn noted(bundle: &[u8], heads: &mut [u8], lows: &mut [u16], hints: &mut [u32]) -> Judgement
     requires { ⌜ Hinted (now bundle) (now hints) ⌝ }
     ensures { λ r. ⌜ r ≡ secondTells (now (bundle .entry)) ⌝ }
 {
     super::hints::note_all(bundle, hints);
-    super::passes::second_pass(bundle, marks, hints)
+    super::passes::second_pass(bundle, heads, lows, hints)
 }

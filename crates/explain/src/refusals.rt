@@ -191,18 +191,34 @@ fn tell_other_transferor(bundle: &[u8], record: usize) {
 fn tell_repeated_key(bundle: &[u8], record: usize, earlier: usize) {
     let at = place_of(bundle, record);
     let before = place_of(bundle, earlier);
-    say(b"The record repeats the key of an earlier record.\n");
+    let table = table_at(bundle, at);
+    let body = body_at(bundle, at);
+    let other = body_at(bundle, before);
+    say(b"The record has the key of an earlier record, and the two periods overlap.\n");
     tell_record(bundle, record, at);
     say(b"Record ");
     say_number(earlier);
     say(b", at byte ");
     say_number(before);
     say(b" of the bundle, has the same key: ");
-    say_key(table_at(bundle, before), body_at(bundle, before));
-    say(b".\nA key may stand only once in its table; the days are no part of it.\n");
-    say(
-        b"Keep one of the two. Records for different seasons under one key cannot stand together.\n",
-    );
+    say_key(table, other);
+    say(b".\n");
+    tell_period(table, record, body);
+    tell_period(table, earlier, other);
+    say(b"The first day that is in both periods is ");
+    say_number(fields::first_shared_day(table, body, other) as usize);
+    say(b".\nRecords of one key may stand together only if no day is in two of their periods.\n");
+    say(b"Keep one of the two, or correct the first or the last day of one.\n");
+}
+
+fn tell_period(table: u32, record: usize, body: &[u8]) {
+    say(b"Record ");
+    say_number(record);
+    say(b" is valid from ");
+    say_number(fields::first_day(table, body) as usize);
+    say(b" to ");
+    say_number(fields::last_day(table, body) as usize);
+    say(b", both days included.\n");
 }
 
 fn tell_missing_link(bundle: &[u8], record: usize, detail: usize) {

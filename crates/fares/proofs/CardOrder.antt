@@ -25,7 +25,6 @@ module _ (R : List Rec) (q : Question) (leg : Leg) (before after : List ℕ) (s 
         inside = k .1;
         given = λ e. a .given (k .2 ∙ e);
         is-card = rw (← k .2) (a .is-card);
-        in-force = a .in-force;
       }
 
   applies-with : {flag i : ℕ} → AppliesWith R here leg co flag i → AppliesWith R there leg co flag i
@@ -61,7 +60,6 @@ module _ (R : List Rec) (q : Question) (leg : Leg) (before after : List ℕ) (s 
       record {
         at = l .at;
         is-conditions = l .is-conditions;
-        in-force = l .in-force;
         persons-fit = l .persons-fit;
         none-unread = l .none-unread;
         amount = l .amount;

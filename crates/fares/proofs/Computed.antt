@@ -11,13 +11,13 @@ use Rattle.common.proofs.Listed.{each}
 use Rattle.layout.specs.Company.{isCompany, isAllRailways, isTransferor, companyOf, isRailway}
 use Rattle.layout.specs.Dates.{isDay, monthLength, monthLengths}
 use Rattle.layout.specs.Layout.{lengthOf, endOf, tableAt, tables}
-use Rattle.layout.specs.Fields.{rowWith, rowOf, bytesOf, byteOf, numberIn, isYes, transferorOf, offerOf, railwayOf, codeOf, codeFits, sameKey, dayRow, hasPeriod, firstDay, lastDay, holdsDay, grantIn}
+use Rattle.layout.specs.Fields.{rowWith, rowOf, bytesOf, byteOf, numberIn, isYes, transferorOf, offerOf, railwayOf, codeOf, codeFits, sameKey, dayRow, hasPeriod, firstDay, lastDay, holdsDay, firstShared, lastShared, shareDay, grantIn}
 use Rattle.layout.specs.Rules.{numberOrBlank, mostPersons, factorRule, firstDayRule, lastDayRule, ruled, keptBeside, keepsRow, firstBroken, brokenField}
 use Rattle.bundle.specs.Records.{tableOf, stepOf, recordsFrom, restFrom, recordsOf, restOf}
 use Rattle.bundle.specs.Keys.{otherTransferor, clash, earlierOf}
 use Rattle.bundle.specs.Links.{linkRows, isAsked, railwayServes, joins, serves, missingLink}
-use Rattle.bundle.specs.Choice.{isOf, choiceOf}
-use Rattle.bundle.specs.Samples.{digits, year, conditions, named, cardWith}
+use Rattle.choice.specs.Choice.{isOf, choiceOf}
+use Rattle.bundle.specs.Samples.{digits, period, year, conditionsIn, namedIn, cardIn}
 use Rattle.bundle.specs.Verdict.{firstPass, secondPass, checks}
 use Rattle.fares.specs.Question.{cardsInLimits, cardsDiffer, inLimits}
 use Rattle.fares.specs.Rounding.{rounded, upwards, downwards, nearest}
@@ -29,5 +29,5 @@ use Rattle.fares.specs.Figures.{Figure, Says, figures}
 
 -- THE FIGURES
 pub fare-figures-hold : (x : Figure) → List·Memᴰ x figures → Says x
-unfolding least every any only same sum firstOf digitsAfter numberOf firstFault eachFrom isCompany isAllRailways isTransferor companyOf isRailway isDay monthLength monthLengths lengthOf endOf tableAt tables rowWith rowOf bytesOf byteOf numberIn isYes transferorOf offerOf railwayOf codeOf codeFits sameKey dayRow hasPeriod firstDay lastDay holdsDay grantIn numberOrBlank mostPersons factorRule firstDayRule lastDayRule ruled keptBeside keepsRow firstBroken brokenField tableOf stepOf recordsFrom restFrom recordsOf restOf otherTransferor clash earlierOf linkRows isAsked railwayServes joins serves missingLink isOf choiceOf firstPass secondPass checks cardsInLimits cardsDiffer inLimits rounded upwards downwards nearest reduceBy reduceAll insert insertAll flatMap leastFrom afterCards cardsFor personsFit unread firstSet partBy partsOf priceChecks fareChecks fareOf digits year conditions named cardWith
-fare-figures-hold = each Says figures (refl, (refl, (refl, (refl, (refl, (refl, (refl, (refl, (refl, (refl, (refl, (refl, (refl, (refl, (refl, (refl, (refl, (refl, (refl, (refl, (refl, (refl, (refl, (refl, (refl, (refl, (refl, (refl, (refl, (refl, (refl, (refl, (refl, (refl, (refl, (refl, (refl, (refl, (refl, (refl, (refl, (refl, (refl, (refl, (refl, (refl, (refl, (refl, (refl, tt)))))))))))))))))))))))))))))))))))))))))))))))))
+unfolding least every any only same sum firstOf digitsAfter numberOf firstFault eachFrom isCompany isAllRailways isTransferor companyOf isRailway isDay monthLength monthLengths lengthOf endOf tableAt tables rowWith rowOf bytesOf byteOf numberIn isYes transferorOf offerOf railwayOf codeOf codeFits sameKey dayRow hasPeriod firstDay lastDay holdsDay firstShared lastShared shareDay grantIn numberOrBlank mostPersons factorRule firstDayRule lastDayRule ruled keptBeside keepsRow firstBroken brokenField tableOf stepOf recordsFrom restFrom recordsOf restOf otherTransferor clash earlierOf linkRows isAsked railwayServes joins serves missingLink isOf choiceOf firstPass secondPass checks cardsInLimits cardsDiffer inLimits rounded upwards downwards nearest reduceBy reduceAll insert insertAll flatMap leastFrom afterCards cardsFor personsFit unread firstSet partBy partsOf priceChecks fareChecks fareOf digits period year conditionsIn namedIn cardIn
+fare-figures-hold = each Says figures (refl, (refl, (refl, (refl, (refl, (refl, (refl, (refl, (refl, (refl, (refl, (refl, (refl, (refl, (refl, (refl, (refl, (refl, (refl, (refl, (refl, (refl, (refl, (refl, (refl, (refl, (refl, (refl, (refl, (refl, (refl, (refl, (refl, (refl, (refl, (refl, (refl, (refl, (refl, (refl, (refl, (refl, (refl, (refl, (refl, (refl, (refl, (refl, (refl, (refl, (refl, (refl, (refl, (refl, (refl, (refl, (refl, (refl, tt))))))))))))))))))))))))))))))))))))))))))))))))))))))))))

@@ -17,12 +17,12 @@ use Rattle.common.proofs.Lists.{first-length, first-at}
 use Rattle.layout.specs.Layout.{CO, AR, tableAt, tables}
 use Rattle.layout.specs.Fields.{rowWith, rowOf, byteOf, isYes}
 use Rattle.bundle.specs.Records.{Rec, noRec, recordsOf}
-use Rattle.bundle.specs.Choice.{choiceOf}
-use Rattle.bundle.specs.Helpers.{atPlace}
-use Rattle.bundle.specs.declared.choice.Choice.{Choice}
-use Rattle.bundle.specs.declared.choice.Choice.the-variants.{At, NotThatDay, Nothing}
+use Rattle.choice.specs.Choice.{choiceOf}
+use Rattle.choice.specs.Helpers.{atPlace}
+use Rattle.choice.specs.declared.Choice.{Choice}
+use Rattle.choice.specs.declared.Choice.the-variants.{At, NotThatDay, Nothing}
 use Rattle.bundle.proofs.Here.{at-place}
-use Rattle.bundle.proofs.ChoiceLaws.{is-nothing, is-off-day, choice-inside}
+use Rattle.choice.proofs.WalkLaws.{is-nothing, is-off-day, choice-inside}
 use Rattle.fares.specs.Question.{isGiven, cardSlots, cardsOf}
 use Rattle.fares.specs.Reductions.{conditionsGrant, reduceBy, partBound, greatestPart}
 use Rattle.fares.specs.Cards.{afterCards}

@@ -13,29 +13,24 @@ use Rattle.common.specs.Checks.{refuse, clean, fault, firstFault}
 use Rattle.common.proofs.Tests.{never, both-true, either-false, refuted}
 use Rattle.layout.specs.Bytes.{byte-Y}
 use Rattle.layout.specs.Layout.{CO, tableAt, tables}
-use Rattle.layout.specs.Fields.{rowWith, rowOf, bytesOf, byteOf, numberIn, isFlagRow, isYes, ofOffers, dayRow, firstDay, lastDay}
+use Rattle.layout.specs.Fields.{rowWith, rowOf, byteOf, numberIn, isFlagRow, isYes, ofOffers}
 use Rattle.bundle.specs.Records.{Rec}
-use Rattle.bundle.specs.Choice.{forLegs}
-use Rattle.bundle.specs.Chosen.{Chosen, used, not-that-day, nothing}
+use Rattle.choice.specs.Choice.{forLegs}
+use Rattle.choice.specs.Chosen.{For, Chosen, used, not-that-day, nothing}
 use Rattle.bundle.specs.Meaning.{recordAt, Good}
-use Rattle.bundle.specs.declared.choice.Choice.{Choice}
-use Rattle.bundle.specs.declared.choice.Choice.the-variants.{At, NotThatDay, Nothing}
-use Rattle.bundle.proofs.Chosen.{choice-means, chosen-only}
+use Rattle.choice.specs.declared.Choice.{Choice}
+use Rattle.choice.specs.declared.Choice.the-variants.{At, NotThatDay, Nothing}
+use Rattle.choice.proofs.Chosen.{choice-means, uses-either, chosen-only}
 use Rattle.fares.specs.Reductions.{conditionsGrant, reduceBy}
 use Rattle.fares.specs.Cards.{afterCards}
 use Rattle.fares.specs.Legs.{wantedFor, conditionsFor, bodies, appliedFor, mostOf, personsFit, unread, firstSet, conditionChecks, legChecks, partBy, partOf}
-use Rattle.fares.specs.Meaning.{CardsDiffer, InForce, PersonsFit, NoneSet, FirstSet, unreadFields, IsConditions, LegFare}
-use Rattle.fares.specs.Meaning.{TurnedAway, no-conditions, not-in-force, persons-outside, unread as condition-unread}
+use Rattle.fares.specs.Meaning.{CardsDiffer, PersonsFit, NoneSet, FirstSet, unreadFields, IsConditions, LegFare}
+use Rattle.fares.specs.Meaning.{TurnedAway, no-conditions, none-valid, persons-outside, unread as condition-unread}
 use Rattle.fares.specs.declared.Leg.{Leg}
 use Rattle.fares.specs.declared.Question.{Question}
 use Rattle.fares.proofs.Grants.{Lawful, conditions-lawful}
-use Rattle.fares.proofs.RecordMeaning.{reduced-by, reduced-only, to-force, from-force}
+use Rattle.fares.proofs.RecordMeaning.{reduced-by, reduced-only}
 use Rattle.fares.proofs.PermittedMeaning.{cards-mean, cards-only}
-
--- THE DAYS of a CO
-conditions-days : (body : List ℕ) → (firstDay CO body ≡ numberIn CO 42 body) × (lastDay CO body ≡ numberIn CO 44 body)
-unfolding firstDay lastDay dayRow numberIn bytesOf rowOf rowWith tableAt tables
-conditions-days body = (refl, refl)
 
 -- THE PERSONS
 module _ (co : List ℕ) (persons : ℕ) where
@@ -136,12 +131,15 @@ module _ (s : List ℕ) (R : List Rec) (g : Good s R) (q : Question) (leg : Leg)
   is-conditions : (c : Choice) → Chosen R CO (q .offer) 0 (leg .railway) (q .day) c → conditionsFor R q leg ≡ c
   is-conditions c m = chosen-only s R g CO conditions-legs (q .offer) 0 (leg .railway) (q .day) _ c conditions-mean m
 
-  conditions-at : (i : ℕ) → IsConditions R q leg i → InForce CO 42 44 (recordAt R i .body) (q .day) → conditionsFor R q leg ≡ At i
-  conditions-at i u f = is-conditions (At i) (used i u (from-force CO 42 44 conditions-days R (q .day) i f))
+  conditions-at : (i : ℕ) → IsConditions R q leg i → conditionsFor R q leg ≡ At i
+  conditions-at i u = is-conditions (At i) (used i u)
 
   -- what the record grants
   conditions-grant : (i : ℕ) → IsConditions R q leg i → Lawful (conditionsGrant (recordAt R i .body))
-  conditions-grant i u = conditions-lawful (recordAt R i) (g .fields i (u .0)) (⊎-elim (λ f. f .table) (λ f. f .0 .table) (u .1))
+  conditions-grant i u = ⊎-elim by-record by-record (uses-either R CO (q .offer) 0 (leg .railway) (q .day) i u .0)
+    where
+      by-record : {railway : ℕ} → For R CO (q .offer) 0 railway i → Lawful (conditionsGrant (recordAt R i .body))
+      by-record f = conditions-lawful (recordAt R i) (g .fields i (f .0)) (f .1 .table)
 
   -- what the cards leave of an amount
   abbrev after : List ℕ → ℕ → ℕ
@@ -163,7 +161,7 @@ module _ (s : List ℕ) (R : List Rec) (g : Good s R) (q : Question) (leg : Leg)
         ⊎ ((n : ℕ) × (d : ℕ) × (firstFault (legChecks R q k leg) ≡ fault (refuse n k d)) × TurnedAway R q leg n d)
 
     -- by its CO, where no card is given twice
-    module _ (d : CardsDiffer q) (i : ℕ) (e : conditionsFor R q leg ≡ At i) (u : IsConditions R q leg i) (h : InForce CO 42 44 (recordAt R i .body) (q .day)) where
+    module _ (d : CardsDiffer q) (i : ℕ) (e : conditionsFor R q leg ≡ At i) (u : IsConditions R q leg i) where
       abbrev co : List ℕ
       co = recordAt R i .body
 
@@ -176,7 +174,6 @@ module _ (s : List ℕ) (R : List Rec) (g : Good s R) (q : Question) (leg : Leg)
             record {
               at = i;
               is-conditions = u;
-              in-force = h;
               persons-fit = p;
               none-unread = z .1;
               amount = reduceBy (leg .fare) (conditionsGrant co);
@@ -186,19 +183,19 @@ module _ (s : List ℕ) (R : List Rec) (g : Good s R) (q : Question) (leg : Leg)
               times-persons = part-at i e;
             },
           ))
-          (λ z. inr (15, firstSet unread co, at-record i e ∙ rw (b, ne-eqb (firstSet unread co) 0 (λ x. omega (arith, z .1))), condition-unread i u h p (firstSet unread co) (z .0)))
+          (λ z. inr (15, firstSet unread co, at-record i e ∙ rw (b, ne-eqb (firstSet unread co) 0 (λ x. omega (arith, z .1))), condition-unread i u p (firstSet unread co) (z .0)))
           (first-unread co)
 
       by-persons : (b : Bool) → personsFit co (q .persons) ≡ b → Found
       unfolding firstFault
-      by-persons false b = inr (14, 0, at-record i e ∙ rw b, persons-outside i u h (λ p. never (means-fit co (q .persons) p) b))
+      by-persons false b = inr (14, 0, at-record i e ∙ rw b, persons-outside i u (λ p. never (means-fit co (q .persons) p) b))
       by-persons true b = by-unread (fit-means co (q .persons) b) b
 
     by-choice : CardsDiffer q → (c : Choice) → conditionsFor R q leg ≡ c → Chosen R CO (q .offer) 0 (leg .railway) (q .day) c → Found
     unfolding firstFault
-    by-choice d c e (used i u h) = by-persons d i e u (to-force CO 42 44 conditions-days R (q .day) i h) (personsFit (recordAt R i .body) (q .persons)) refl
-    by-choice d c e (not-that-day i u h) = inr (13, 0, rw e, not-in-force i u (λ f. h (from-force CO 42 44 conditions-days R (q .day) i f)))
-    by-choice d c e (nothing a b) = inr (12, 0, rw e, no-conditions a b)
+    by-choice d c e (used i u) = by-persons d i e u (personsFit (recordAt R i .body) (q .persons)) refl
+    by-choice d c e (not-that-day i f h) = inr (13, 0, rw e, none-valid i f h)
+    by-choice d c e (nothing h) = inr (12, 0, rw e, no-conditions h)
 
     pub leg-means : CardsDiffer q → Found
     leg-means d = by-choice d (conditionsFor R q leg) refl conditions-mean
@@ -206,20 +203,20 @@ module _ (s : List ℕ) (R : List Rec) (g : Good s R) (q : Question) (leg : Leg)
     -- AND BACK
     pub means-turned : (n d : ℕ) → TurnedAway R q leg n d → firstFault (legChecks R q k leg) ≡ fault (refuse n k d)
     unfolding firstFault
-    means-turned n d (no-conditions a b) = rw (is-conditions Nothing (nothing a b))
-    means-turned n d (not-in-force i u h) = rw (is-conditions NotThatDay (not-that-day i u (λ f. h (to-force CO 42 44 conditions-days R (q .day) i f))))
-    means-turned n d (persons-outside i u h p) =
-        at-record i (conditions-at i u h) ∙ rw (refuted _ (λ b. p (fit-means (recordAt R i .body) (q .persons) b)))
-    means-turned n d (condition-unread i u h p f z) =
+    means-turned n d (no-conditions h) = rw (is-conditions Nothing (nothing h))
+    means-turned n d (none-valid i f h) = rw (is-conditions NotThatDay (not-that-day i f h))
+    means-turned n d (persons-outside i u p) =
+        at-record i (conditions-at i u) ∙ rw (refuted _ (λ b. p (fit-means (recordAt R i .body) (q .persons) b)))
+    means-turned n d (condition-unread i u p f z) =
         let r = one-unread-is (recordAt R i .body) f z in
-        at-record i (conditions-at i u h) ∙ rw (means-fit (recordAt R i .body) (q .persons) p, r .0, ne-eqb f 0 (λ x. omega (arith, r .1)))
+        at-record i (conditions-at i u) ∙ rw (means-fit (recordAt R i .body) (q .persons) p, r .0, ne-eqb f 0 (λ x. omega (arith, r .1)))
 
     pub means-priced : CardsDiffer q → (part : ℕ) → LegFare R q leg part → (firstFault (legChecks R q k leg) ≡ clean) × (part ≡ partOf R q leg)
     unfolding firstFault
     means-priced d part l =
         let i = l .at in
         let co = recordAt R i .body in
-        let e = conditions-at i (l .is-conditions) (l .in-force) in
+        let e = conditions-at i (l .is-conditions) in
         let a = reduced-only CO 39 40 41 co (conditions-grant i (l .is-conditions)) (leg .fare) (l .reduced) in (
           at-record i e ∙ rw (means-fit co (q .persons) (l .persons-fit), none-unread-is co (l .none-unread)),
           l .times-persons ∙ ap (_* q .persons) (cards-only s R g q leg co d (l .amount) (l .last) (l .by-cards) ∙ ap (after co) a) ∙ sym (part-at i e),

@@ -17,10 +17,10 @@ use Rattle.common.proofs.Checks.{fault-append}
 use Rattle.layout.specs.Layout.{CO, AR}
 use Rattle.layout.specs.Fields.{isYes}
 use Rattle.bundle.specs.Records.{Rec, noRec, recordsOf}
-use Rattle.bundle.specs.Choice.{choiceOf}
+use Rattle.choice.specs.Choice.{choiceOf}
 use Rattle.bundle.specs.Verdict.{checks}
-use Rattle.bundle.specs.declared.choice.Choice.{Choice}
-use Rattle.bundle.specs.declared.choice.Choice.the-variants.{At, NotThatDay, Nothing}
+use Rattle.choice.specs.declared.Choice.{Choice}
+use Rattle.choice.specs.declared.Choice.the-variants.{At, NotThatDay, Nothing}
 use Rattle.fares.specs.Question.{between, legsOf, isGiven, cardSlots, cardsOf, cardsInLimits, cardsDiffer, inLimits}
 use Rattle.fares.specs.Reductions.{conditionsGrant, cardGrants, reduceBy, reduceAll, partBound}
 use Rattle.fares.specs.Cards.{afterCards}

@@ -1,17 +1,14 @@
--- WHAT A RECORD SAYS of an amount and of a day: the amount after it, which is one only, and whether it is in force.
+-- WHAT A RECORD SAYS of an amount: the amount after it, which is one only.
 -- Assumes nothing.
 use Prim.Native.Nat.{ℕ}
 use mathlib.Core.Path.{_≡_}
 use mathlib.Core.List.{List}
 use mathlib.Core.Logic.{⊎-elim}
 use native.Mathlib.Omega.{arith}
-use Rattle.layout.specs.Fields.{numberIn, firstDay, lastDay, grantIn}
-use Rattle.bundle.specs.Records.{Rec}
-use Rattle.bundle.specs.Chosen.{HoldsDay}
-use Rattle.bundle.specs.Meaning.{recordAt}
+use Rattle.layout.specs.Fields.{grantIn}
 use Rattle.fares.specs.Reductions.{reduceBy}
 use Rattle.fares.specs.Rounding.{IsRounded}
-use Rattle.fares.specs.Meaning.{InForce, IsReduced}
+use Rattle.fares.specs.Meaning.{IsReduced}
 use Rattle.fares.proofs.RoundLaws.{up-only, down-only, near-only}
 use Rattle.fares.proofs.Grants.{Lawful, rounded-as-said}
 
@@ -34,11 +31,3 @@ module _ (t d m f : ℕ) (body : List ℕ) (l : Lawful (grantIn t d m f body)) (
 
   pub reduced-only : {after : ℕ} → IsReduced t d m f body before after → after ≡ reduceBy before (grantIn t d m f body)
   reduced-only x = rounded-only (x .rounded-once) (reduced-by .rounded-once)
-
--- THE DAYS of a table are two of its fields
-module _ (t first last : ℕ) (days : (body : List ℕ) → (firstDay t body ≡ numberIn t first body) × (lastDay t body ≡ numberIn t last body)) (R : List Rec) (day i : ℕ) where
-  pub to-force : HoldsDay R t day i → InForce t first last (recordAt R i .body) day
-  to-force h = let d = days (recordAt R i .body) in (rw (← d .0) (h .0), rw (← d .1) (h .1))
-
-  pub from-force : InForce t first last (recordAt R i .body) day → HoldsDay R t day i
-  from-force h = let d = days (recordAt R i .body) in (rw (d .0) (h .0), rw (d .1) (h .1))

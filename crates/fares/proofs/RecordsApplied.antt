@@ -17,31 +17,26 @@ use Rattle.common.proofs.Rising.{has, all-any, other, allOther, rises, rising-a
 use Rattle.common.proofs.Only.{has-at, at-has, has-each, has-only, every-has, any-flat, other-only}
 use Rattle.layout.specs.Bytes.{byte-N, byte-Y}
 use Rattle.layout.specs.Layout.{CO, AR, tableAt, tables}
-use Rattle.layout.specs.Fields.{rowWith, rowOf, bytesOf, byteOf, numberIn, isYes, ofOffers, dayRow, firstDay, lastDay}
+use Rattle.layout.specs.Fields.{rowWith, rowOf, byteOf, numberIn, isYes, ofOffers}
 use Rattle.layout.specs.Rules.{ruled, keptBeside, keepsRow}
 use Rattle.layout.proofs.Tables.{keeps-field}
 use Rattle.bundle.specs.Records.{Rec}
-use Rattle.bundle.specs.Choice.{forLegs, choiceOf}
-use Rattle.bundle.specs.Chosen.{Chosen, used, not-that-day, nothing}
+use Rattle.choice.specs.Choice.{forLegs, choiceOf}
+use Rattle.choice.specs.Chosen.{Chosen, used, not-that-day, nothing}
 use Rattle.bundle.specs.Meaning.{recordAt, KeepsRules, Good}
-use Rattle.bundle.specs.declared.choice.Choice.{Choice}
-use Rattle.bundle.specs.declared.choice.Choice.the-variants.{At, NotThatDay, Nothing}
-use Rattle.bundle.proofs.Chosen.{choice-means, chosen-only}
+use Rattle.choice.specs.declared.Choice.{Choice}
+use Rattle.choice.specs.declared.Choice.the-variants.{At, NotThatDay, Nothing}
+use Rattle.choice.proofs.Chosen.{choice-means, uses-either, chosen-only}
 use Rattle.fares.specs.Question.{isGiven, cardSlots, cardsDiffer}
 use Rattle.fares.specs.Cards.{isTogether, isAlone, rankOf}
 use Rattle.fares.specs.Legs.{wantedFor, found, cardFor, cardsFor, appliedFor}
-use Rattle.fares.specs.Meaning.{cardAt, CardsDiffer, InForce, Rises, IsCard, Applies, AppliesWith, AllTogether}
+use Rattle.fares.specs.Meaning.{cardAt, CardsDiffer, Rises, IsCard, Applies, AppliesWith, AllTogether}
 use Rattle.fares.specs.declared.Leg.{Leg}
 use Rattle.fares.specs.declared.Question.{Question}
 use Rattle.fares.proofs.StepLaws.{code-small}
 use Rattle.fares.proofs.CardSlots.{means-differ}
-use Rattle.fares.proofs.RecordMeaning.{to-force, from-force}
 
--- AN AR: its days are two of its fields,
-card-days : (body : List ℕ) → (firstDay AR body ≡ numberIn AR 11 body) × (lastDay AR body ≡ numberIn AR 13 body)
-unfolding firstDay lastDay dayRow numberIn bytesOf rowOf rowWith tableAt tables
-card-days body = (refl, refl)
-
+-- AN AR is a leg's,
 card-legs : forLegs AR ≡ true
 unfolding forLegs ofOffers any every tableAt tables
 card-legs = refl
@@ -109,14 +104,15 @@ module _ (s : List ℕ) (R : List Rec) (g : Good s R) (q : Question) (leg : Leg)
 
   code-is : (card i : ℕ) → IsCard R q leg card i → numberIn AR 4 (body R i) ≡ card
   unfolding tableAt tables
-  code-is card i u = ⊎-elim (λ f. by-code (f .of-code)) (λ f. by-code (f .0 .of-code)) (u .1)
+  code-is card i u =
+      ⊎-elim (λ f. by-code (f .1 .of-code)) (λ f. by-code (f .1 .of-code)) (uses-either R AR (q .offer) card (leg .railway) (q .day) i u .0)
     where
       by-code : (_≡_ {A = ℕ} 4 0) ⊎ (numberIn AR 4 (body R i) ≡ card) → numberIn AR 4 (body R i) ≡ card
       by-code c = ⊎-elim (λ e. absurd (omega (arith, e))) (λ e. e) c
 
-  -- what is found for a card that is given is its record, in force that day,
+  -- what is found for a card that is given is its record that day,
   abbrev FoundFor : ℕ → ℕ → Type 0
-  FoundFor card i = (card ≡ 0 → ⊥) × IsCard R q leg card i × InForce AR 11 13 (body R i) (q .day)
+  FoundFor card i = (card ≡ 0 → ⊥) × IsCard R q leg card i
 
   abbrev finds : ℕ → ℕ → Bool
   finds i card = has i (found (cardFor R q leg card))
@@ -126,11 +122,11 @@ module _ (s : List ℕ) (R : List Rec) (g : Good s R) (q : Question) (leg : Leg)
   found-means card i = go (eqb card 0) refl
     where
       by-choice : (c : Choice) → Chosen R AR (q .offer) card (leg .railway) (q .day) c → (card ≡ 0 → ⊥) → has i (found c) ≡ true → FoundFor card i
-      by-choice c (used j u h) n e =
+      by-choice c (used j u) n e =
           let t : i ≡ j = eqb-true i j (sym (or-false (eqb i j)) ∙ e) in
-          rw t (n, u, to-force AR 11 13 card-days R (q .day) j h)
-      by-choice c (not-that-day j u h) n e = never e refl
-      by-choice c (nothing a b) n e = never e refl
+          rw t (n, u)
+      by-choice c (not-that-day j f h) n e = never e refl
+      by-choice c (nothing h) n e = never e refl
 
       go : (z : Bool) → eqb card 0 ≡ z → has i (found (cond (not z) (choiceOf R (wantedFor AR card q leg)) Nothing)) ≡ true → FoundFor card i
       go true z e = never e refl
@@ -142,7 +138,7 @@ module _ (s : List ℕ) (R : List Rec) (g : Good s R) (q : Question) (leg : Leg)
   means-found card i f =
       let c : choiceOf R (wantedFor AR card q leg) ≡ At i =
       chosen-only s R g AR card-legs (q .offer) card (leg .railway) (q .day) _ (At i) (card-choice card)
-      (used i (f .1) (from-force AR 11 13 card-days R (q .day) i (f .2))) in
+      (used i (f .1)) in
       rw (ne-eqb card 0 (f .0), c, eq-eqb i i refl)
 
   -- THE RECORDS OF SOME CARDS are those found for one of them, and have its code
@@ -201,19 +197,21 @@ module _ (s : List ℕ) (R : List Rec) (g : Good s R) (q : Question) (leg : Leg)
             let a = any-at (finds i) 0 (cardSlots q) (sym (finds-in (cardSlots q) i) ∙ e) in
             let m : a .0 < 4 = omega (arith, a .1, first-length 0 4 (q .cards)) in
             let f = found-means (cardAt q (a .0)) i (rw (first-at 0 4 (q .cards) (a .0) m) at (a .2)) in
-            record { allowed = eqb-true (byteOf CO 33 co) byte-Y y; slot = a .0; inside = m; given = f .0; is-card = f .1; in-force = f .2 }
+            record { allowed = eqb-true (byteOf CO 33 co) byte-Y y; slot = a .0; inside = m; given = f .0; is-card = f .1 }
 
     pub means-applied : (i : ℕ) → Applying i → has i (applied R q leg co) ≡ true
     unfolding cardsFor
     means-applied i a =
-        let f = means-found (cardAt q (a .slot)) i (a .given, a .is-card, a .in-force) in
+        let f = means-found (cardAt q (a .slot)) i (a .given, a .is-card) in
         rw (allowed-is, eq-eqb (byteOf CO 33 co) byte-Y (a .allowed), finds-in (cardSlots q) i)
         (at-any (finds i) 0 (cardSlots q) (a .slot) (omega (arith, a .inside, first-length 0 4 (q .cards)))
         (rw (first-at 0 4 (q .cards) (a .slot) (a .inside)) f))
 
     -- it is an AR that keeps the rules,
     pub keeps-AR : (i : ℕ) → Applying i → KeepsRules (recordAt R i) × (recordAt R i .table ≡ AR)
-    keeps-AR i a = (g .fields i (a .is-card .0), ⊎-elim (λ f. f .table) (λ f. f .0 .table) (a .is-card .1))
+    keeps-AR i a =
+        ⊎-elim (λ f. (g .fields i (f .0), f .1 .table)) (λ f. (g .fields i (f .0), f .1 .table))
+        (uses-either R AR (q .offer) (cardAt q (a .slot)) (leg .railway) (q .day) i (a .is-card) .0)
 
     -- and says Y or N
     says-Y : (i : ℕ) → Applying i → eqb (byteOf AR 6 (body R i)) byte-Y ≡ true → Saying byte-Y i

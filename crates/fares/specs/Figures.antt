@@ -12,7 +12,7 @@ use Rattle.layout.specs.Dates.{isDay}
 use Rattle.fares.specs.Rounding.{unit}
 use Rattle.fares.specs.Reductions.{partBound, greatestFare}
 use Rattle.fares.specs.Fare.{noFare, fareOf}
-use Rattle.bundle.specs.Samples.{grant, conditions, named, cardName, cardWith, card}
+use Rattle.bundle.specs.Samples.{period, grant, conditionsIn, conditions, named, cardName, cardIn, cardWith, card}
 use Rattle.fares.specs.Samples.{leg, ticket}
 use Rattle.fares.specs.declared.Question.{Question}
 use Rattle.fares.specs.declared.Pricing.the-variants.{Priced}
@@ -48,6 +48,10 @@ alone fare discount rounding factor cents = asked (conditions 0 byte-N (grant di
 abbrev pub cards : ℕ → List ℕ → List ℕ → ℕ → Figure
 cards fare records asks cents = asked (conditions 0 byte-Y (grant 0 byte-N 0) ++ (named 5 ++ (named 7 ++ records))) (ticket 1 asks 1 (leg 1185 fare ∷ [])) cents (cents ∷ [])
 
+-- a CO of a railway of its own, in a part of the year, by its discount
+abbrev pub own : ℕ → ℕ → ℕ → List ℕ
+own first last discount = conditionsIn (period first last) 1185 byte-N (grant discount byte-N 0)
+
 abbrev pub figures : List Figure
 figures =
     exact 1010 25000 75750000 ∷
@@ -74,6 +78,18 @@ figures =
     -- two railways, one with a CO of its own beside that of 0000, which is a default only
     asked (conditions 1185 byte-N (grant 25000 byte-N 0) ++ conditions 0 byte-N (grant 0 byte-N 0)) (ticket 3 [] 2 (leg 1185 1010 ∷ leg 1181 500 ∷ [])) 3774 (2274 ∷ 1500 ∷ []) ∷
     asked (conditions 1185 byte-N (grant 25000 byte-N 0) ++ conditions 0 byte-N (grant 50000 byte-N 0)) (ticket 1 [] 1 (leg 1185 1010 ∷ [])) 758 (758 ∷ []) ∷
+    -- on 15 June: the CO of that season, whichever stands first, and of no season in between
+    asked (own 20240101 20240531 25000 ++ own 20240601 20241231 50000) (ticket 1 [] 1 (leg 1185 1010 ∷ [])) 505 (505 ∷ []) ∷
+    asked (own 20240615 20241231 50000 ++ own 20240101 20240614 25000) (ticket 1 [] 1 (leg 1185 1010 ∷ [])) 505 (505 ∷ []) ∷
+    turned-away (own 20240101 20240614 25000 ++ own 20240616 20241231 50000) (ticket 1 [] 1 (leg 1185 1010 ∷ [])) 13 ∷
+    -- an own CO off its days leaves the leg to the one of 0000, if that is valid; a railway that has none but another's is 12
+    asked (own 20240101 20240614 25000 ++ conditions 0 byte-N (grant 50000 byte-N 0)) (ticket 1 [] 1 (leg 1185 1010 ∷ [])) 505 (505 ∷ []) ∷
+    turned-away (own 20240101 20240614 25000 ++ conditionsIn (period 20240616 20241231) 0 byte-N (grant 50000 byte-N 0)) (ticket 1 [] 1 (leg 1185 1010 ∷ [])) 13 ∷
+    turned-away (conditionsIn (period 20240616 20241231) 0 byte-N (grant 50000 byte-N 0)) (ticket 1 [] 1 (leg 1185 1010 ∷ [])) 13 ∷
+    turned-away (own 20240101 20240614 25000) (ticket 1 [] 1 (leg 1181 1010 ∷ [])) 12 ∷
+    -- and so an own AR off its days leaves it to that of 0000; valid, it does not
+    cards 1010 (cardIn (period 20240101 20240614) 1185 7 byte-Y 1 50000 byte-N 0 ++ card 30000 byte-N 0) (7 ∷ []) 707 ∷
+    cards 1010 (cardIn (period 20240615 20240615) 1185 7 byte-Y 1 50000 byte-N 0 ++ card 30000 byte-N 0) (7 ∷ []) 505 ∷
     -- Y together in rising rating, at equal rating in rising code, whatever the order of the cards: half up to 50, then a quarter down to 100, or the other way
     cards 134 (cardWith 5 byte-Y 1 50000 byte-plus 50 ++ cardWith 7 byte-Y 2 25000 byte-minus 100) (5 ∷ 7 ∷ []) 0 ∷
     cards 134 (cardWith 5 byte-Y 2 50000 byte-plus 50 ++ cardWith 7 byte-Y 1 25000 byte-minus 100) (5 ∷ 7 ∷ []) 50 ∷

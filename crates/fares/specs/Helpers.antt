@@ -11,8 +11,9 @@ use Rattle.common.specs.Checks.{Finding, unless, firstFault}
 use Rattle.layout.specs.Dates.{isDay}
 use Rattle.layout.specs.declared.fields.Grant.{Grant}
 use Rattle.bundle.specs.Records.{Rec, recordsOf}
-use Rattle.bundle.specs.Helpers.{placesOf, bodyAt, atPlace}
-use Rattle.bundle.specs.declared.choice.Choice.{Choice}
+use Rattle.bundle.specs.Helpers.{placesOf, bodyAt}
+use Rattle.choice.specs.Helpers.{atPlace}
+use Rattle.choice.specs.declared.Choice.{Choice}
 use Rattle.fares.specs.Question.{between}
 use Rattle.fares.specs.Reductions.{cardGrants, reduceBy}
 use Rattle.fares.specs.Cards.{isAlone, rankOf}

@@ -1,4 +1,4 @@
--- One leg of a question (document 01, 'Pricing', numbers 12 to 15): first which records it has, then what these say of it.
+-- One leg of a question (document 01, 'Pricing', numbers 12 to 15, and document 02, R-2): first which records it has, then what these say of it.
 -- Assumes nothing.
 use Prim.Native.Nat.{ℕ, _*_}
 use mathlib.Core.Bool.{Bool, true, false, cond, not, _&&_}
@@ -9,10 +9,10 @@ use Rattle.common.specs.Checks.{Check, check}
 use Rattle.layout.specs.Layout.{CO, AR}
 use Rattle.layout.specs.Fields.{numberIn, isYes}
 use Rattle.bundle.specs.Records.{Rec, noRec}
-use Rattle.bundle.specs.Choice.{choiceOf}
-use Rattle.bundle.specs.declared.choice.Wanted.{Wanted}
-use Rattle.bundle.specs.declared.choice.Choice.{Choice}
-use Rattle.bundle.specs.declared.choice.Choice.the-variants.{At, NotThatDay, Nothing}
+use Rattle.choice.specs.Choice.{choiceOf}
+use Rattle.choice.specs.declared.Wanted.{Wanted}
+use Rattle.choice.specs.declared.Choice.{Choice}
+use Rattle.choice.specs.declared.Choice.the-variants.{At, NotThatDay, Nothing}
 use Rattle.fares.specs.Question.{isGiven, cardSlots}
 use Rattle.fares.specs.Reductions.{conditionsGrant, reduceBy}
 use Rattle.fares.specs.Cards.{afterCards}
@@ -23,11 +23,11 @@ use Rattle.fares.specs.declared.Question.{Question}
 abbrev pub wantedFor : ℕ → ℕ → Question → Leg → Wanted
 wantedFor t c q leg = record { table = t; offer = q .offer; railway = leg .railway; code = c; day = q .day }
 
--- "the CO record of the offer and that railway is used, or else the offer's one for 0000"
+-- "The record for a leg is then the railway's own one valid that day, else the 0000 one valid that day"
 abbrev pub conditionsFor : List Rec → Question → Leg → Choice
 conditionsFor R q leg = choiceOf R (wantedFor CO 0 q leg)
 
--- the record that was chosen, if one was: "If there is no such AR, or the day lies outside it, the card does not reduce that leg"
+-- the record that was chosen, if one was: a card of which none is valid does not reduce that leg
 abbrev pub found : Choice → List ℕ
 found (At i) = i ∷ []
 found NotThatDay = []
@@ -40,8 +40,7 @@ bodies R is = map (λ i. getD R i noRec .body) is
 abbrev pub bodyOf : List Rec → Choice → List ℕ
 bodyOf R c = getD (bodies R (found c)) 0 []
 
--- "Then, if its flag 33 is Y and a card is given, the offer's AR record of that railway and code, or else the one of 0000"; those of all its cards, in the
--- order of the cards
+-- "Then, if its flag 33 is Y and a card is given, the offer's AR record", chosen likewise; those of all its cards, in the order of the cards
 abbrev pub cardFor : List Rec → Question → Leg → ℕ → Choice
 cardFor R q leg card = cond (isGiven card) (choiceOf R (wantedFor AR card q leg)) Nothing
 
@@ -87,7 +86,7 @@ isOffDay (At i) = false
 isOffDay NotThatDay = true
 isOffDay Nothing = false
 
--- 12: no CO for railway or 0000; 13: day outside that CO; then as it says
+-- "13 when CO records of that railway or 0000 exist and none is valid; 12 when there are none"; then as the one chosen says
 abbrev pub legChecks : List Rec → Question → ℕ → Leg → List Check
 legChecks R q k leg =
     let c : Choice = conditionsFor R q leg in

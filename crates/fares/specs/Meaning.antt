@@ -1,5 +1,5 @@
--- WHAT A FARE MEANS (document 01, 'Pricing', and document 02, R-1): which records count for a leg, by their fields; each amount from the one before it; the
--- part and the fare. There is no search, no sort and no order of trying in it.
+-- WHAT A FARE MEANS (document 01, 'Pricing', and document 02, R-1 and R-2): which records count for a leg, by their fields; each amount from the one before
+-- it; the part and the fare. There is no search, no sort and no order of trying in it.
 -- Assumes nothing.
 use Prim.Native.Nat.{ℕ, _-_, _*_, _≤_, _<_}
 use mathlib.Core.Path.{_≡_}
@@ -14,9 +14,9 @@ use Rattle.layout.specs.Calendar.{RealDay}
 use Rattle.layout.specs.Layout.{CO, AR}
 use Rattle.layout.specs.Fields.{numberIn, byteOf}
 use Rattle.bundle.specs.Records.{Rec}
-use Rattle.bundle.specs.Chosen.{NoneFor, Uses}
+use Rattle.choice.specs.Chosen.{ForEither, Uses}
 use Rattle.bundle.specs.Faults.{Fault}
-use Rattle.bundle.specs.Meaning.{recordAt, Good}
+use Rattle.bundle.specs.Meaning.{recordAt, HoldsDay, Good}
 use Rattle.fares.specs.Question.{noLeg}
 use Rattle.fares.specs.Rounding.{IsRounded}
 use Rattle.fares.specs.declared.Leg.{Leg}
@@ -54,10 +54,6 @@ withCards q cards = record { offer = q .offer; day = q .day; persons = q .person
 abbrev pub SameCards : List ℕ → List ℕ → Type 0
 SameCards before after = (j : ℕ) → j < 4 → (getD before j 0 ≡ 0 → ⊥) → (k : ℕ) × (k < 4) × (getD before j 0 ≡ getD after k 0)
 
--- A RECORD IN FORCE: the day is not before its first day's field, and not after its last day's
-abbrev pub InForce : ℕ → ℕ → ℕ → List ℕ → ℕ → Type 0
-InForce t first last body day = (numberIn t first body ≤ day) × (day ≤ numberIn t last body)
-
 -- AN AMOUNT AFTER A RECORD: "plain fare times (100,000 - discount) / 100,000 as an exact fraction, rounded by the .. record", by the record's fields of
 -- discount, rounding and factor; a discount that is blank is 0
 pub record IsReduced (t discount rounding factor : ℕ) (body : List ℕ) (before after : ℕ) : Type 0 where
@@ -89,23 +85,25 @@ abbrev pub Rises : List ℕ → List ℕ → Type 0
 Rises ar next = (numberIn AR 7 ar < numberIn AR 7 next) ⊎ ((numberIn AR 7 ar ≡ numberIn AR 7 next) × (numberIn AR 4 ar < numberIn AR 4 next))
 
 module _ (R : List Rec) (q : Question) (leg : Leg) where
-  -- "the CO record of the offer and that railway is used, or else the offer's one for 0000"
+  -- "The record for a leg is then the railway's own one valid that day, else the 0000 one valid that day": of the CO, and of the AR of a card
   abbrev pub IsConditions : ℕ → Type 0
-  IsConditions i = Uses R CO (q .offer) 0 (leg .railway) i
+  IsConditions i = Uses R CO (q .offer) 0 (leg .railway) (q .day) i
 
-  -- "the offer's AR record of that railway and code, or else the one of 0000"
   abbrev pub IsCard : ℕ → ℕ → Type 0
-  IsCard card i = Uses R AR (q .offer) card (leg .railway) i
+  IsCard card i = Uses R AR (q .offer) card (leg .railway) (q .day) i
+
+  -- "CO records of that railway or 0000", on whatever days
+  abbrev pub AnyConditions : ℕ → Type 0
+  AnyConditions i = ForEither R CO (q .offer) 0 (leg .railway) i
 
   module _ (co : List ℕ) where
-    -- A RECORD APPLIES that day: flag 33 of the CO is Y, and it is the AR of a card that is given, in force
+    -- A RECORD APPLIES that day: flag 33 of the CO is Y, and it is the AR of a card that is given
     pub record Applies (i : ℕ) : Type 0 where
       pub allowed : byteOf CO 33 co ≡ byte-Y
       pub slot : ℕ
       pub inside : slot < 4
       pub given : cardAt q slot ≡ 0 → ⊥
       pub is-card : IsCard (cardAt q slot) i
-      pub in-force : InForce AR 11 13 (recordAt R i .body) (q .day)
 
     -- its field 6 says whether it is applied together with others or alone
     pub record AppliesWith (flag i : ℕ) : Type 0 where
@@ -135,12 +133,11 @@ module _ (R : List Rec) (q : Question) (leg : Leg) where
     least : {last : ℕ} (choice : List ℕ) → Permitted co choice → After choice before last
         → ((other : List ℕ) (amount : ℕ) → Permitted co other → After other before amount → last ≤ amount) → AfterCards co before last
 
-  -- A LEG'S PART: its CO, in force that day, admits the persons and sets no condition unread; the plain fare after the CO, and after the cards, times the
+  -- A LEG'S PART: its CO admits the persons and sets no condition unread; the plain fare after the CO, and after the cards, times the
   -- persons
   pub record LegFare (part : ℕ) : Type 0 where
     pub at : ℕ
     pub is-conditions : IsConditions at
-    pub in-force : InForce CO 42 44 (recordAt R at .body) (q .day)
     pub persons-fit : PersonsFit (recordAt R at .body) (q .persons)
     pub none-unread : NoneSet unreadFields (recordAt R at .body)
     pub amount : ℕ
@@ -149,15 +146,13 @@ module _ (R : List Rec) (q : Question) (leg : Leg) where
     pub by-cards : AfterCards (recordAt R at .body) amount last
     pub times-persons : part ≡ last * q .persons
 
-  -- A LEG IS TURNED AWAY by a number and its detail. 12: no CO for railway or 0000; 13: day outside that CO; 14: persons outside its fields 28, 29; 15: a
-  -- condition unread, by its field
+  -- A LEG IS TURNED AWAY by a number and its detail. "13 when CO records of that railway or 0000 exist and none is valid; 12 when there are none"; 14: persons
+  -- outside the fields 28, 29 of the one that it uses; 15: a condition unread of it, by its field
   pub data TurnedAway : ℕ → ℕ → Type 0 where
-    no-conditions : NoneFor R CO (q .offer) 0 (leg .railway) → NoneFor R CO (q .offer) 0 0 → TurnedAway 12 0
-    not-in-force : (i : ℕ) → IsConditions i → (InForce CO 42 44 (recordAt R i .body) (q .day) → ⊥) → TurnedAway 13 0
-    persons-outside : (i : ℕ) → IsConditions i → InForce CO 42 44 (recordAt R i .body) (q .day) → (PersonsFit (recordAt R i .body) (q .persons) → ⊥)
-        → TurnedAway 14 0
-    unread : (i : ℕ) → IsConditions i → InForce CO 42 44 (recordAt R i .body) (q .day) → PersonsFit (recordAt R i .body) (q .persons)
-        → (f : ℕ) → FirstSet unreadFields (recordAt R i .body) f → TurnedAway 15 f
+    no-conditions : ((i : ℕ) → AnyConditions i → ⊥) → TurnedAway 12 0
+    none-valid : (i : ℕ) → AnyConditions i → ((j : ℕ) → AnyConditions j → HoldsDay CO (q .day) (recordAt R j) → ⊥) → TurnedAway 13 0
+    persons-outside : (i : ℕ) → IsConditions i → (PersonsFit (recordAt R i .body) (q .persons) → ⊥) → TurnedAway 14 0
+    unread : (i : ℕ) → IsConditions i → PersonsFit (recordAt R i .body) (q .persons) → (f : ℕ) → FirstSet unreadFields (recordAt R i .body) f → TurnedAway 15 f
 
 -- THE FARE of a question by the records of a bundle: a part for each leg, nothing in the slots beyond them, and the sum
 pub record IsFare (bundle : List ℕ) (R : List Rec) (q : Question) (fare : ℕ) (parts : List ℕ) : Type 0 where

@@ -1,5 +1,5 @@
 -- THE BASE'S RULE: what a question with one card, or none, was answered before a question could carry several (document 01, 'Pricing'). It is kept to say
--- that such a question is answered as it was, and it looks at the first slot alone.
+-- that such a question is answered as it was, and it looks at the first slot alone. Which records a leg uses is today's choice (document 02, R-2).
 -- Assumes nothing.
 use Prim.Native.Nat.{ℕ, _-_, _*_, _<_}
 use mathlib.Core.Path.{_≡_}
@@ -13,10 +13,10 @@ use Rattle.layout.specs.Dates.{isDay}
 use Rattle.layout.specs.Layout.{CO, AR}
 use Rattle.layout.specs.Fields.{isYes}
 use Rattle.bundle.specs.Records.{Rec, recordsOf}
-use Rattle.bundle.specs.Choice.{choiceOf}
+use Rattle.choice.specs.Choice.{choiceOf}
 use Rattle.bundle.specs.Verdict.{checks}
-use Rattle.bundle.specs.declared.choice.Choice.{Choice}
-use Rattle.bundle.specs.declared.choice.Choice.the-variants.{Nothing}
+use Rattle.choice.specs.declared.Choice.{Choice}
+use Rattle.choice.specs.declared.Choice.the-variants.{Nothing}
 use Rattle.fares.specs.Question.{between, legInLimits, legsOf}
 use Rattle.fares.specs.Reductions.{conditionsGrant, cardGrants, reduceAll}
 use Rattle.fares.specs.Legs.{wantedFor, conditionsFor, found, bodies, bodyOf, legChecks}
@@ -42,7 +42,7 @@ baseInLimits q =
     every legInLimits (legsOf q) ∷
     [])
 
--- "Then, if its flag 33 is Y and a card is given, the offer's AR record of that railway and code, or else the one of 0000."
+-- "Then, if its flag 33 is Y and a card is given, the offer's AR record", chosen as the CO is
 abbrev pub baseCard : List Rec → Question → Leg → List ℕ → Choice
 baseCard R q leg co = cond (isYes CO 33 co && not (eqb (cardAt q 0) 0)) (choiceOf R (wantedFor AR (cardAt q 0) q leg)) Nothing
 

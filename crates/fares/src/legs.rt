@@ -10,7 +10,7 @@ use super::cards::after_cards;
 use super::records::Cards;
 use super::records::LegRecords;
 use super::reductions::reduce;
-use bundle::choice::Choice;
+use choice::Choice;
 
 // A leg's part of the fare, or why it is refused.
 pub enum Priced {

@@ -2,13 +2,13 @@
 ghost use mathlib.Core.Path.{_≡_};
 ghost use mathlib.Core.List.{[], map};
 ghost use Rattle.bundle.specs.Records.{recordsOf};
-ghost use Rattle.bundle.specs.Helpers.{atPlace};
+ghost use Rattle.choice.specs.Helpers.{atPlace};
 ghost use Rattle.fares.specs.Legs.{wantedFor, cardFor, cardsFor};
 ghost use Rattle.fares.specs.Helpers.{cardsBy, placeOf, placed};
 use super::Leg;
 use super::Question;
-use bundle::choice::Choice;
-use bundle::choice::Wanted;
+use choice::Choice;
+use choice::Wanted;
 
 // The AR records that apply, in the order of the cards, by the places of their marks.
 pub struct Cards {
@@ -42,7 +42,7 @@ fn card_for(bundle: &[u8], q: Question, leg: Leg, card: u32) -> Choice
     if card == 0 {
         return Choice::Nothing;
     }
-    bundle::choice::choose(bundle, wanted_for(layout::AR, card, q, leg))
+    choice::choose(bundle, wanted_for(layout::AR, card, q, leg))
 }
 
 fn no_cards() -> Cards
@@ -76,7 +76,7 @@ fn cards_for(bundle: &[u8], q: Question, leg: Leg) -> Cards
 pub fn choose(bundle: &[u8], q: Question, leg: Leg) -> LegRecords
     ensures { λ r. ⌜ r ≡ placed (now (bundle .entry)) q leg ⌝ }
 {
-    let conditions = bundle::choice::choose(bundle, wanted_for(layout::CO, 0, q, leg));
+    let conditions = choice::choose(bundle, wanted_for(layout::CO, 0, q, leg));
     let Choice::At(place) = conditions else {
         return LegRecords {
             conditions,

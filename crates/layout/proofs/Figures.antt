@@ -36,7 +36,8 @@ of-calendar = (refl, (refl, (refl, of-bytes)))
 
 of-periods : All Says (drop 20 figures)
 unfolding tables tableAt any rowWith bytesOf rowOf numberIn dayRow hasPeriod firstDay lastDay holdsDay
-of-periods = (λ body d. between _ d _, (λ body d. between _ d _, (λ body d. between _ d _, (λ body d. between _ d _, of-calendar))))
+of-periods =
+    (λ body. (refl, refl, λ d. between _ d _), (λ body. (refl, refl, λ d. between _ d _), (λ body. (refl, refl, λ d. between _ d _), (λ body. (refl, refl, λ d. between _ d _), of-calendar))))
 
 of-keys : All Says (drop 16 figures)
 unfolding tables tableAt every same rowWith rowOf bytesOf offerOf railwayOf codeOf sameKey

@@ -9,3 +9,4 @@ pub mod Companies
 pub mod Meanings
 pub mod Values
 pub mod Readings
+pub mod Periods

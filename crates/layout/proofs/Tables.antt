@@ -18,7 +18,7 @@ use Rattle.common.proofs.Least.{before}
 use Rattle.common.specs.Digits.{numberOf, valueOf, isWithin}
 use Rattle.common.proofs.Lists.{same-is, same-parts}
 use Rattle.common.proofs.Tests.{never, both-true, side}
-use Rattle.layout.specs.Layout.{CO, NUMBER, FIRST-DAY, LAST-DAY, noTable, tables, tableCount, tableAt, endOf, lengthOf, standFrom, numbers}
+use Rattle.layout.specs.Layout.{CO, NUMBER, FIRST-DAY, LAST-DAY, noRow, noTable, tables, tableCount, tableAt, endOf, lengthOf, standFrom, numbers}
 use Rattle.layout.specs.Fields.{fieldAt, bytesIn, rowWith, rowOf, bytesOf, transferorOf, ofOffers, offerOf, railwayOf, codeOf, codeFits, sameKey, dayRow, hasPeriod}
 use Rattle.layout.specs.Company.{isCompany}
 use Rattle.layout.specs.Rules.{ruled, keptBeside, keepsRow, firstBroken, brokenField, keepsRules}
@@ -171,6 +171,11 @@ period t h =
       last = eqb-true _ _ (computed (λ u. eqb (dayRow LAST-DAY u .start) (lengthOf u - 7)) tableCount refl t h);
       last-long = eqb-true _ _ (computed (λ u. eqb (dayRow LAST-DAY u .length) 8) tableCount refl t h);
     }
+
+-- and what is no table has none
+pub no-days : (kind t : ℕ) → tableCount ≤ t → dayRow kind t ≡ noRow
+unfolding dayRow rowWith
+no-days kind t h = rw (no-table t h)
 
 -- A KEPT RECORD keeps the row of each field that its table has
 first-with : (p q : Row → Bool) (rs : List Row) → every q rs ≡ true → any p rs ≡ true → q (rowWith p rs) ≡ true

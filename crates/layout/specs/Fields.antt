@@ -86,6 +86,22 @@ lastDay t body = valueOf (numberOf (bytesIn (dayRow LAST-DAY t) body))
 unfoldable pub holdsDay : ℕ → List ℕ → ℕ → Bool
 holdsDay t body day = hasPeriod t && (leb (firstDay t body) day && leb day (lastDay t body))
 
+-- "their periods share no day": two periods share the days from the later first day to the earlier last day
+abbrev pub later : ℕ → ℕ → ℕ
+later a b = cond (leb a b) b a
+
+abbrev pub earlier : ℕ → ℕ → ℕ
+earlier a b = cond (leb a b) a b
+
+unfoldable pub firstShared : ℕ → List ℕ → List ℕ → ℕ
+firstShared t a b = later (firstDay t a) (firstDay t b)
+
+unfoldable pub lastShared : ℕ → List ℕ → List ℕ → ℕ
+lastShared t a b = earlier (lastDay t a) (lastDay t b)
+
+unfoldable pub shareDay : ℕ → List ℕ → List ℕ → Bool
+shareDay t a b = leb (firstShared t a b) (lastShared t a b)
+
 -- A GRANT: discount, rounding and factor of a record, by their fields; a blank discount is 0
 unfoldable pub grantIn : ℕ → ℕ → ℕ → ℕ → List ℕ → Grant
 grantIn t d m f body = record { discount = numberIn t d body; mode = byteOf t m body; factor = numberIn t f body }

@@ -1,7 +1,7 @@
 -- The layout in figures: what source document 001 says of each table (Appendices C, H, I and O), the keys of document 01, the calendar's months, and the
 -- letters and digits of a field.
 -- Assumes nothing.
-use Prim.Native.Nat.{ℕ, _+_, _≤_}
+use Prim.Native.Nat.{ℕ, _+_}
 use mathlib.Core.Path.{_≡_}
 use mathlib.Core.Bool.{true}
 use mathlib.Core.List.{List, [], _∷_, _++_, map}
@@ -11,8 +11,9 @@ use Rattle.common.specs.Digits.{numberOf}
 use Rattle.common.specs.declared.Num.the-variants.{Is}
 use Rattle.layout.specs.Bytes.{byte-blank, byte-plus, byte-minus, byte-0, byte-N, byte-Y}
 use Rattle.layout.specs.Layout.{CO, RE, AR, ME, tableAt, lengthOf}
-use Rattle.layout.specs.Fields.{bytesOf, numberIn, offerOf, railwayOf, codeOf, sameKey, holdsDay}
+use Rattle.layout.specs.Fields.{bytesOf, numberIn, offerOf, railwayOf, codeOf, sameKey, firstDay, lastDay, holdsDay}
 use Rattle.layout.specs.Dates.{monthLength}
+use Rattle.layout.specs.Values.{InPeriod}
 use Rattle.layout.specs.declared.rows.Row.{Row}
 
 -- fields that follow each other, by the lengths that 001 gives them: each has its number, starts behind the one before, and is so long
@@ -61,7 +62,9 @@ Says (long t n) = lengthOf t ≡ n
 Says (fields t runs) = map (λ (r : Row). r .field ∷ r .start ∷ r .length ∷ []) (tableAt t .rows) ≡ inRuns 1 runs
 Says (coded t f) = (body : List ℕ) → codeOf t body ≡ bytesOf t f body
 Says (keyed t parts) = (a b : List ℕ) → (sameKey t a b ≡ true) ↔ Alike parts a b
-Says (period t first last) = (body : List ℕ) (day : ℕ) → (holdsDay t body day ≡ true) ↔ ((numberIn t first body ≤ day) × (day ≤ numberIn t last body))
+Says (period t first last) =
+    (body : List ℕ) → (firstDay t body ≡ numberIn t first body) × (lastDay t body ≡ numberIn t last body)
+    × ((day : ℕ) → (holdsDay t body day ≡ true) ↔ InPeriod t day body)
 Says (months year lengths) = monthsOf year ≡ lengths
 Says (years first count days) = sum (upTo (λ k. sum (monthsOf (first + k))) count) ≡ days
 Says (letter byte code) = byte ≡ code

@@ -12,7 +12,7 @@ use Rattle.common.specs.declared.Num.the-variants.{Is}
 use Rattle.layout.specs.Bytes.{byte-blank, byte-plus, byte-minus, byte-0, byte-N, byte-Y}
 use Rattle.layout.specs.Company.{isAllRailways, isRailway}
 use Rattle.layout.specs.Layout.{CO, RE, AR, ME}
-use Rattle.layout.specs.Fields.{bytesOf, byteOf, numberIn, isYes}
+use Rattle.layout.specs.Fields.{bytesOf, byteOf, numberIn, isYes, firstDay, lastDay}
 use Rattle.layout.specs.Calendar.{RealDay}
 
 -- each byte of a field
@@ -118,3 +118,10 @@ pub record Readings (body : List ℕ) : Type 0 where
 pub record Railways : Type 0 where
   pub for-all : (s : List ℕ) → (isAllRailways s ≡ true) ↔ (s ≡ byte-0 ∷ byte-0 ∷ byte-0 ∷ byte-0 ∷ [])
   pub asked : (railway : ℕ) → (isRailway railway ≡ true) ↔ Within 1 9999 railway
+
+-- PERIODS. "Both days are inside the period": a record holds a day; two records share one
+abbrev pub InPeriod : ℕ → ℕ → List ℕ → Type 0
+InPeriod t day body = (firstDay t body ≤ day) × (day ≤ lastDay t body)
+
+abbrev pub Share : ℕ → List ℕ → List ℕ → Type 0
+Share t a b = (day : ℕ) × InPeriod t day a × InPeriod t day b

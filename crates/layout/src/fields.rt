@@ -2,7 +2,7 @@
 ghost use mathlib.Core.Path.{_≡_};
 ghost use Rattle.common.specs.Digits.{numberOf, valueOf};
 ghost use Rattle.layout.specs.Layout.{CO as inCO, AR as inAR};
-ghost use Rattle.layout.specs.Fields.{fieldAt, numberIn, isYes, transferorOf, offerOf, railwayOf, codeOf, codeFits, sameKey, holdsDay, grantIn};
+ghost use Rattle.layout.specs.Fields.{fieldAt, numberIn, isYes, transferorOf, offerOf, railwayOf, codeOf, codeFits, sameKey, firstDay, lastDay, holdsDay, firstShared, lastShared, shareDay, grantIn};
 ghost use Rattle.layout.specs.Helpers.{codeSpan, keyLength, keyNumber};
 use super::AR;
 use super::CO;
@@ -113,18 +113,84 @@ pub fn key_number(table: u32, body: &[u8]) -> u64
     common::rank(field(body, 5, key_length(table))) + table as u64 * TABLE_STEP
 }
 
-// Whether a day lies in the period of a record: its last 18 bytes are the first day, the version and the last day.
+// The day there, 0 where there is none. Where there are eight bytes they are read without a loop, as their number is known.
+fn day_at(body: &[u8], start: usize) -> u32
+    ensures { λ r. ⌜ r ≡ valueOf (numberOf (fieldAt start 8 (now (body .entry)))) ⌝ }
+{
+    let s = field(body, start, 8);
+    if s.len() != 8 {
+        return common::value(common::number(s));
+    }
+    common::value(common::number(&s[0..8]))
+}
+
+// The first and the last day of a record's period, 0 for no table: its last 18 bytes are the first day, the version and the last day.
+pub fn first_day(table: u32, body: &[u8]) -> u32
+    ensures { λ r. ⌜ r ≡ firstDay table (now (body .entry)) ⌝ }
+{
+    if super::TABLES <= table {
+        return 0;
+    }
+    day_at(body, common::less(super::length_of(table), 17))
+}
+
+pub fn last_day(table: u32, body: &[u8]) -> u32
+    ensures { λ r. ⌜ r ≡ lastDay table (now (body .entry)) ⌝ }
+{
+    if super::TABLES <= table {
+        return 0;
+    }
+    day_at(body, common::less(super::length_of(table), 7))
+}
+
+// Whether a day lies in the period of a record.
 pub fn holds_day(table: u32, body: &[u8], day: u32) -> bool
     ensures { λ r. ⌜ r ≡ holdsDay table (now (body .entry)) day ⌝ }
 {
     if super::TABLES <= table {
         return false;
     }
-    let length = super::length_of(table);
-    if day < number_at(body, common::less(length, 17), 8) {
+    if day < first_day(table, body) {
         return false;
     }
-    day <= number_at(body, common::less(length, 7), 8)
+    day <= last_day(table, body)
+}
+
+// The first day that the periods of two records of a table share, if they share any: the later first day.
+pub fn first_shared_day<'a>(table: u32, a: &'a [u8], b: &'a [u8]) -> u32
+    ensures { λ r. ⌜ r ≡ firstShared table (now (a .entry)) (now (b .entry)) ⌝ }
+{
+    let first = first_day(table, a);
+    let other = first_day(table, b);
+    if first <= other {
+        return other;
+    }
+    first
+}
+
+// The last: the earlier last day.
+fn last_shared_day<'a>(table: u32, a: &'a [u8], b: &'a [u8]) -> u32
+    ensures { λ r. ⌜ r ≡ lastShared table (now (a .entry)) (now (b .entry)) ⌝ }
+{
+    let last = last_day(table, a);
+    let other = last_day(table, b);
+    if last <= other {
+        return last;
+    }
+    other
+}
+
+// Whether they share any. Mostly one period is over before the other begins, and then the other days are not read.
+pub fn share_day<'a>(table: u32, a: &'a [u8], b: &'a [u8]) -> bool
+    ensures { λ r. ⌜ r ≡ shareDay table (now (a .entry)) (now (b .entry)) ⌝ }
+{
+    if last_day(table, b) < first_day(table, a) {
+        return false;
+    }
+    if last_day(table, a) < first_day(table, b) {
+        return false;
+    }
+    first_shared_day(table, a, b) <= last_shared_day(table, a, b)
 }
 
 // Whether a field of a CO is a flag that says Y.

@@ -18,31 +18,34 @@ use Rattle.common.specs.declared.Refusal.{Refusal}
 use Rattle.common.proofs.Lists.{upto-same}
 use Rattle.common.proofs.Tests.{both-true, in-range}
 use Rattle.layout.specs.Layout.{CO, AR, ME, tables, tableAt, tableCount, lengthOf}
-use Rattle.layout.specs.Fields.{rowOf, bytesOf, ofOffers, transferorOf, offerOf, railwayOf}
+use Rattle.layout.specs.Fields.{rowOf, bytesOf, ofOffers, transferorOf, offerOf, railwayOf, firstShared}
 use Rattle.layout.specs.Rules.{keepsRow, keepsRules}
 use Rattle.layout.specs.Dates.{monthLength, isDay}
 use Rattle.layout.specs.Calendar.{LeapYears, Months, DayBy, RealDay}
 use Rattle.layout.specs.MonthRule.{lengthByRule}
-use Rattle.layout.specs.Values.{Field, values, Means, Readings, Railways}
+use Rattle.layout.specs.Values.{Field, values, Means, Readings, Railways, InPeriod, Share}
 use Rattle.layout.specs.Figures as layout
 use Rattle.layout.proofs.Tables.{transferor-stands, offer-stands, railway-stands}
 use Rattle.layout.proofs.Calendar.{leap-years, months, a-day-is-real, real-is-a-day}
 use Rattle.layout.proofs.MonthRule.{rule-agrees}
 use Rattle.layout.proofs.Values.{values-hold, kept-by-its-values}
 use Rattle.layout.proofs.Readings.{readings, railways}
+use Rattle.layout.proofs.Periods.{first-of-shared}
 use Rattle.layout.proofs.Figures.{layout-figures-hold}
 use Rattle.bundle.specs.Records.{Rec, recordsOf, restOf}
 use Rattle.bundle.specs.Verdict.{verdictOf}
-use Rattle.bundle.specs.Meaning.{recordAt, Good}
+use Rattle.bundle.specs.Meaning.{recordAt, SameKey, HoldsDay, Good}
 use Rattle.bundle.specs.Faults.{Cut, Fault}
-use Rattle.bundle.specs.Chosen.{IsFor, Uses}
-use Rattle.bundle.specs.Choice.{forLegs}
+use Rattle.bundle.specs.Before.{GoodBefore, NoKeyTwice}
+use Rattle.choice.specs.Chosen.{Valid, Uses}
+use Rattle.choice.specs.Choice.{forLegs}
 use Rattle.bundle.specs.Figures as verdicts
-use Rattle.bundle.proofs.Unique.{only-one}
-use Rattle.bundle.proofs.Chosen.{uses-one}
+use Rattle.choice.proofs.Unique.{one-a-day, only-one}
+use Rattle.choice.proofs.Chosen.{uses-one}
 use Rattle.bundle.proofs.CutAndJoin.{cut-means, cut-only}
 use Rattle.bundle.proofs.Meaning.{accepted-good, good-accepted}
 use Rattle.bundle.proofs.Faults.{refused-fault, fault-refused}
+use Rattle.bundle.proofs.Before.{before-good, good-before}
 use Rattle.bundle.proofs.Computed.{verdict-figures-hold}
 use Rattle.fares.specs.Rounding.{IsRounded}
 use Rattle.fares.specs.Fare.{fareOf}
@@ -159,19 +162,39 @@ the-rule-and-the-table-agree = rule-agrees
 pub a-day-is-a-real-one : (d : ℕ) → (isDay d ≡ true) ↔ RealDay d
 a-day-is-a-real-one d = (a-day-is-real d, real-is-a-day d)
 
--- In a bundle that keeps the rules a table whose key is the offer, the railway and its code has one record at most for them, or for 0000; so a leg uses one at
--- most. Such tables are CO, AR and ME.
-pub there-is-one-record-for-a-leg : (bundle : List ℕ) (R : List Rec) → Good bundle R → (t : ℕ) → forLegs t ≡ true → (offer code railway i j : ℕ) → i < length R → j < length R
-    → IsFor t offer code railway (recordAt R i) → IsFor t offer code railway (recordAt R j) → i ≡ j
+-- SUMMER AND WINTER. In a bundle that keeps the rules at most one record of a key holds a day, in every table.
+pub at-most-one-record-of-a-key-holds-a-day : (bundle : List ℕ) (R : List Rec) → Good bundle R → (i j day : ℕ) → i < length R → j < length R
+    → SameKey (recordAt R i) (recordAt R j) → HoldsDay (recordAt R i .table) day (recordAt R i) → HoldsDay (recordAt R j .table) day (recordAt R j) → i ≡ j
+at-most-one-record-of-a-key-holds-a-day = one-a-day
+
+-- The first day that two periods share, if they share any, is in both, and no earlier day is.
+pub the-first-day-that-two-periods-share : (t : ℕ) (a b : List ℕ) → Share t a b
+    → InPeriod t (firstShared t a b) a × InPeriod t (firstShared t a b) b × ((day : ℕ) → InPeriod t day a → InPeriod t day b → firstShared t a b ≤ day)
+the-first-day-that-two-periods-share = first-of-shared
+
+-- So a table whose key is the offer, the railway and its code has one record at most for them, or for 0000, on a day; and a leg uses one at most. Such tables are
+-- CO, AR and ME.
+pub there-is-one-record-for-a-leg : (bundle : List ℕ) (R : List Rec) → Good bundle R → (t : ℕ) → forLegs t ≡ true → (offer code railway day i j : ℕ)
+    → Valid R t offer code railway day i → Valid R t offer code railway day j → i ≡ j
 there-is-one-record-for-a-leg = only-one
 
-pub a-leg-uses-one-record : (bundle : List ℕ) (R : List Rec) → Good bundle R → (t : ℕ) → forLegs t ≡ true → (offer code railway i j : ℕ)
-    → Uses R t offer code railway i → Uses R t offer code railway j → i ≡ j
+pub a-leg-uses-one-record : (bundle : List ℕ) (R : List Rec) → Good bundle R → (t : ℕ) → forLegs t ≡ true → (offer code railway day i j : ℕ)
+    → Uses R t offer code railway day i → Uses R t offer code railway day j → i ≡ j
 a-leg-uses-one-record = uses-one
 
 pub such-are-the-tables-of-offers : (forLegs CO ≡ true) × (forLegs AR ≡ true) × (forLegs ME ≡ true)
 unfolding forLegs ofOffers any every tableAt tables
 such-are-the-tables-of-offers = (refl, refl, refl)
+
+-- What was accepted before two records of one key could stand together is accepted still, with as many records; and what is accepted now and repeats no key was.
+pub what-was-accepted-still-is : (bundle : List ℕ) (R : List Rec) → GoodBefore bundle R → verdictTells (verdictOf bundle) ≡ answers (length R ∷ [])
+what-was-accepted-still-is bundle R g = keeping-the-rules-is-accepted bundle R (before-good bundle R g)
+
+pub without-a-repeated-key-it-was-accepted : (bundle : List ℕ) (n : ℕ) → verdictTells (verdictOf bundle) ≡ answers (n ∷ []) → NoKeyTwice (recordsOf bundle)
+    → GoodBefore bundle (recordsOf bundle) × (length (recordsOf bundle) ≡ n)
+without-a-repeated-key-it-was-accepted bundle n e k =
+    let a = accepted-keeps-the-rules bundle n e in
+    (good-before bundle (recordsOf bundle) (a .0) k, a .1)
 
 -- DEMAND 2, a fare. It is answered only with what it means: for each leg the CO that it uses, the plain fare less its discount, rounded as that record says, and
 -- then the same by the AR records of its cards, of what is permitted the least; times the persons; and the sum. And it is answered if it means that.
@@ -238,7 +261,7 @@ the-limits-of-a-question q = (limits-mean q, means-limits q)
 pub the-cards-of-a-question-differ : (q : Question) → (cardsDiffer (cardSlots q) ≡ true) ↔ CardsDiffer q
 the-cards-of-a-question-differ q = (differ-means q, means-differ q)
 
--- A fare is refused only for a fault of the bundle, a question outside its limits (11) or with a card given twice (17), or the first leg that has no CO (12), none in force (13), other persons (14)
+-- A fare is refused only for a fault of the bundle, a question outside its limits (11) or with a card given twice (17), or the first leg that has no CO (12), none that is valid (13), other persons (14)
 -- or a condition unread (15); and if that is so.
 pub a-refused-fare-says-why : (bundle : List ℕ) (q : Question) (why : Refusal) (us : List ℕ) → fareTells (fareOf bundle q) ≡ refuses why us
     → NoFare bundle (recordsOf bundle) (restOf bundle) q (why .number) (why .place) (why .detail)

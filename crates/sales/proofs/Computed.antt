@@ -12,14 +12,14 @@ use Rattle.common.specs.Checks.{firstFault, eachFrom}
 use Rattle.layout.specs.Company.{isCompany, isAllRailways, isTransferor, companyOf, isRailway}
 use Rattle.layout.specs.Dates.{isDay, monthLength, monthLengths}
 use Rattle.layout.specs.Layout.{lengthOf, endOf, tableAt, tables}
-use Rattle.layout.specs.Fields.{rowWith, rowOf, bytesOf, byteOf, numberIn, isYes, transferorOf, offerOf, railwayOf, codeOf, codeFits, sameKey, dayRow, hasPeriod, firstDay, lastDay, holdsDay, grantIn}
+use Rattle.layout.specs.Fields.{rowWith, rowOf, bytesOf, byteOf, numberIn, isYes, transferorOf, offerOf, railwayOf, codeOf, codeFits, sameKey, dayRow, hasPeriod, firstDay, lastDay, holdsDay, firstShared, lastShared, shareDay, grantIn}
 use Rattle.layout.specs.Rules.{numberOrBlank, mostPersons, factorRule, firstDayRule, lastDayRule, ruled, keptBeside, keepsRow, firstBroken, brokenField}
 use Rattle.bundle.specs.Records.{tableOf, stepOf, recordsFrom, restFrom, recordsOf, restOf}
 use Rattle.bundle.specs.Keys.{otherTransferor, clash, earlierOf}
 use Rattle.bundle.specs.Links.{linkRows, isAsked, railwayServes, joins, serves, missingLink}
-use Rattle.bundle.specs.Choice.{isOf, choiceOf}
+use Rattle.choice.specs.Choice.{isOf, choiceOf}
 use Rattle.fares.specs.declared.Pricing.the-variants.{Priced}
-use Rattle.bundle.specs.Samples.{digits, year, conditions, named, cardWith}
+use Rattle.bundle.specs.Samples.{digits, period, year, conditionsIn, namedIn, cardIn}
 use Rattle.bundle.specs.Verdict.{firstPass, secondPass, checks}
 use Rattle.fares.specs.Question.{cardsInLimits, cardsDiffer, inLimits}
 use Rattle.fares.specs.Rounding.{rounded, upwards, downwards, nearest}
@@ -40,7 +40,7 @@ use Rattle.sales.proofs.SentAgain.{told-first, cancel-told}
 
 -- THE FARE, computed
 priced-parts : (fareOf bundle asked .outcome ≡ Priced) × (fareOf bundle asked .parts ≡ parts) × (partsOf (recordsOf bundle) asked ≡ parts)
-unfolding least every any only same sum firstOf digitsAfter numberOf firstFault eachFrom isCompany isAllRailways isTransferor companyOf isRailway isDay monthLength monthLengths lengthOf endOf tableAt tables rowWith rowOf bytesOf byteOf numberIn isYes transferorOf offerOf railwayOf codeOf codeFits sameKey dayRow hasPeriod firstDay lastDay holdsDay grantIn numberOrBlank mostPersons factorRule firstDayRule lastDayRule ruled keptBeside keepsRow firstBroken brokenField tableOf stepOf recordsFrom restFrom recordsOf restOf otherTransferor clash earlierOf linkRows isAsked railwayServes joins serves missingLink isOf choiceOf firstPass secondPass checks cardsInLimits cardsDiffer inLimits rounded upwards downwards nearest reduceBy reduceAll insert insertAll flatMap leastFrom afterCards cardsFor personsFit unread firstSet partBy partsOf priceChecks fareChecks fareOf digits year conditions named cardWith
+unfolding least every any only same sum firstOf digitsAfter numberOf firstFault eachFrom isCompany isAllRailways isTransferor companyOf isRailway isDay monthLength monthLengths lengthOf endOf tableAt tables rowWith rowOf bytesOf byteOf numberIn isYes transferorOf offerOf railwayOf codeOf codeFits sameKey dayRow hasPeriod firstDay lastDay holdsDay firstShared lastShared shareDay grantIn numberOrBlank mostPersons factorRule firstDayRule lastDayRule ruled keptBeside keepsRow firstBroken brokenField tableOf stepOf recordsFrom restFrom recordsOf restOf otherTransferor clash earlierOf linkRows isAsked railwayServes joins serves missingLink isOf choiceOf firstPass secondPass checks cardsInLimits cardsDiffer inLimits rounded upwards downwards nearest reduceBy reduceAll insert insertAll flatMap leastFrom afterCards cardsFor personsFit unread firstSet partBy partsOf priceChecks fareChecks fareOf digits period year conditionsIn namedIn cardIn
 priced-parts = (refl, refl, refl)
 
 -- WHAT IS OWED after some operations, computed from the fare
@@ -67,7 +67,7 @@ booked-first : saleAnswer (after emptyBook []) 1 1 bundle asked .outcome ≡ Boo
 booked-first = ap (λ r. r .outcome) first-booked
 
 pub the-day : Day
-unfolding cancelledIn owed books dueFrom upTo least every any only same sum firstOf digitsAfter numberOf firstFault eachFrom isCompany isAllRailways isTransferor companyOf isRailway isDay monthLength monthLengths lengthOf endOf tableAt tables rowWith rowOf bytesOf byteOf numberIn isYes transferorOf offerOf railwayOf codeOf codeFits sameKey dayRow hasPeriod firstDay lastDay holdsDay grantIn numberOrBlank mostPersons factorRule firstDayRule lastDayRule ruled keptBeside keepsRow firstBroken brokenField tableOf stepOf recordsFrom restFrom recordsOf restOf otherTransferor clash earlierOf linkRows isAsked railwayServes joins serves missingLink isOf choiceOf firstPass secondPass checks cardsInLimits cardsDiffer inLimits rounded upwards downwards nearest reduceBy reduceAll insert insertAll flatMap leastFrom afterCards cardsFor personsFit unread firstSet partBy partsOf priceChecks fareChecks fareOf digits year conditions named cardWith
+unfolding cancelledIn owed books dueFrom upTo least every any only same sum firstOf digitsAfter numberOf firstFault eachFrom isCompany isAllRailways isTransferor companyOf isRailway isDay monthLength monthLengths lengthOf endOf tableAt tables rowWith rowOf bytesOf byteOf numberIn isYes transferorOf offerOf railwayOf codeOf codeFits sameKey dayRow hasPeriod firstDay lastDay holdsDay firstShared lastShared shareDay grantIn numberOrBlank mostPersons factorRule firstDayRule lastDayRule ruled keptBeside keepsRow firstBroken brokenField tableOf stepOf recordsFrom restFrom recordsOf restOf otherTransferor clash earlierOf linkRows isAsked railwayServes joins serves missingLink isOf choiceOf firstPass secondPass checks cardsInLimits cardsDiffer inLimits rounded upwards downwards nearest reduceBy reduceAll insert insertAll flatMap leastFrom afterCards cardsFor personsFit unread firstSet partBy partsOf priceChecks fareChecks fareOf digits period year conditionsIn namedIn cardIn
 the-day =
     record {
       sale-first = first-booked;

@@ -1,149 +1,128 @@
--- Laws of the numbers seen: one told to be new was not seen, it is seen from then on, and nothing that was seen is forgotten.
+-- Laws of the table of values: one put into the first empty slot on its number's way is held from then on, nothing held is forgotten, and what is held
+-- under a number stands before any empty slot on its way.
 -- Assumes nothing.
-use Prim.Native.Nat.{ℕ, _%_, _≤_, _<_}
-use mathlib.Core.Path.{_≡_, refl, _∙_, ap}
-use mathlib.Core.Bool.{Bool, true, false, cond, and-false, or-true}
-use mathlib.Core.Logic.{_⊎_, inl, inr, ⊎-elim}
-use mathlib.Core.List.{List, [], _∷_}
+use Prim.Native.Nat.{ℕ, _+_, _%_, _≤_, _<_}
+use mathlib.Core.Path.{_≡_, sym, _∙_}
+use mathlib.Core.Bool.{Bool, true, false, cond}
+use mathlib.Core.Logic.{⊎-elim}
+use mathlib.Core.List.{List}
 use native.Mathlib.Omega.{arith}
-use native.Mathlib.Nat.{mod-lt}
-use lib.Dec.{eqb}
+use native.Mathlib.Numerals.{add-one}
+use lib.Dec.{ltb}
 use lib.ListN.{length, getD, set, length-set}
-use lib.Seq.{getD-set-same}
-use borrow.Author.Tests.{eqb-true, eq-eqb, ne-eqb, lt-ltb, le-ltb}
-use Rattle.common.proofs.Lists.{after-store}
-use Rattle.common.proofs.Tests.{never, side}
-use Rattle.seen.specs.Seen.{isAbove, raised, several, printOf, excludes, marked, markOf, isUnmarked, remarked, isNew, InTops, InMarks, Seen, Tells}
+use lib.Seq.{getD-set-same, getD-set-other}
+use borrow.Author.Tests.{eqb-true, eq-eqb, ltb-true, lt-ltb, le-ltb}
+use Rattle.common.proofs.Tests.{both-true, order}
+use Rattle.seen.specs.Seen.{slotBehind, slotOf, tagOf, headOf, hasTag, valueAt, isRoom, headsWith, lowsWith, IsPut, tryAt, Filled, Held, Holds}
 
--- what is seen already is not told to be new
-not-new : (P : ℕ → ℕ → Type 0) (t n : ℕ) → P t n → Tells P P t n false
-not-new P t n h = ((λ e. never e refl), h, λ u m k. k)
+-- THE WAY OF A NUMBER, a step further
+pub next-try : (slots number k : ℕ) → slotOf slots number (k + 1) ≡ slotBehind slots (slotOf slots number k)
+unfolding slotOf
+next-try slots number k = rw add-one
 
--- BY THE GREATEST NUMBER OF EACH KIND, in three cases; what is kept goes by what is told
-module _ (tops : List ℕ) (t n : ℕ) where
-  kept : (b : Bool) → isAbove tops t n ≡ b → (isAbove tops t n ≡ b) × (raised tops t n ≡ cond b (set tops t n) tops)
-  unfolding raised
-  kept b e = (e, rw e)
+-- A HEAD has its number's tag, and whatever has a tag is not empty.
+own-tag : (number value : ℕ) → hasTag (headOf number value) number ≡ true
+unfolding hasTag
+own-tag number value = eq-eqb (headOf number value % 16) _ (omega arith)
 
-  pub no-such-kind : length tops ≤ t → (isAbove tops t n ≡ false) × (raised tops t n ≡ tops)
-  unfolding isAbove
-  no-such-kind l = kept false (simp (le-ltb t (length tops) l))
+not-empty : (head number : ℕ) → hasTag head number ≡ true → 0 < head
+unfolding hasTag
+not-empty head number e = let t = eqb-true (head % 16) (tagOf number) e in omega arith
 
-  module _ (l : t < length tops) where
-    pub not-above : n ≤ getD tops t 0 → (isAbove tops t n ≡ false) × (raised tops t n ≡ tops)
-    unfolding isAbove
-    not-above a = kept false (simp (lt-ltb t (length tops) l, le-ltb (getD tops t 0) n a))
+-- WHAT IS HELD under a number stands before any empty slot on its way.
+pub held-before : (heads lows : List ℕ) (number value k : ℕ) → tryAt heads number k ≡ 0 → (h : Held heads lows number value) → h .tried < k
+held-before heads lows number value k e h =
+    let l = not-empty (tryAt heads number (h .tried)) number (h .tagged) in
+    ⊎-elim (λ b. b) (⊎-elim (λ q. absurd (omega (arith, rw (← q) at e))) (λ b. absurd (omega (arith, h .filled k b)))) (order (h .tried) k)
 
-    module _ (a : getD tops t 0 < n) where
-      pub is-above : (isAbove tops t n ≡ true) × (raised tops t n ≡ set tops t n)
-      unfolding isAbove
-      is-above = kept true (simp (lt-ltb t (length tops) l, lt-ltb (getD tops t 0) n a))
+-- ROOM, or none
+module _ (heads lows : List ℕ) (slot number value : ℕ) where
+  abbrev Put : Bool → Type 0
+  Put b = IsPut heads lows slot number value b (cond b (set heads slot (headOf number value)) heads) (cond b (set lows slot (value % 65536)) lows)
 
-      keeps : (u m : ℕ) → InTops tops u m → InTops (set tops t n) u m
-      keeps u m h k =
-          let b = h (omega (arith, length-set tops t n)) in
-          ⊎-elim (λ e. rw (e .1) (omega (arith, rw (e .0) at b))) (λ e. rw e b) (after-store tops t u n)
+  put-by : (b : Bool) → isRoom heads lows slot value ≡ b → Put b
+  unfolding headsWith lowsWith
+  put-by b e = (sym e, rw e, rw e)
 
-      above-tells : Tells (InTops tops) (InTops (set tops t n)) t n true
-      above-tells = ((λ e h. omega (arith, h l)), (λ k. rw (getD-set-same tops t n 0 l) (omega arith)), keeps)
+  pub no-head : length heads ≤ slot → Put false
+  unfolding isRoom
+  no-head l = put-by false (rw (le-ltb slot (length heads) l))
 
-  tops-tell : Tells (InTops tops) (InTops (raised tops t n)) t n (isAbove tops t n)
-  tops-tell =
-      ⊎-elim
-      (λ l. ⊎-elim (λ a. rw (is-above l a .0, is-above l a .1) (above-tells l a)) (λ a. rw (not-above l a .0, not-above l a .1) (not-new (InTops tops) t n (λ k. a))) (side (getD tops t 0) n))
-      (λ l. rw (no-such-kind l .0, no-such-kind l .1) (not-new (InTops tops) t n (λ k. absurd (omega arith)))) (side t (length tops))
+  pub no-low : slot < length heads → length lows ≤ slot → Put false
+  unfolding isRoom
+  no-low a l = put-by false (rw (lt-ltb slot (length heads) a, le-ltb slot (length lows) l))
 
--- BY MARKS: a mark becomes the print where nothing else was seen, and else says several;
-marked-as : (mark print : ℕ) → (((mark ≡ 0) ⊎ (mark ≡ print)) × (marked mark print ≡ print)) ⊎ (marked mark print ≡ several)
-unfolding marked
-marked-as mark print = go (eqb mark 0) (eqb mark print) refl refl
-  where
-    go : (a b : Bool) → eqb mark 0 ≡ a → eqb mark print ≡ b → (((mark ≡ 0) ⊎ (mark ≡ print)) × (marked mark print ≡ print)) ⊎ (marked mark print ≡ several)
-    go true b p q = inl (inl (eqb-true mark 0 p), rw p)
-    go false true p q = inl (inr (eqb-true mark print q), rw (p, q))
-    go false false p q = inr (rw (p, q))
+  module _ (a : slot < length heads) (b : slot < length lows) where
+    pub too-great : 1048576 ≤ value → Put false
+    unfolding isRoom
+    too-great l = put-by false (rw (lt-ltb slot (length heads) a, lt-ltb slot (length lows) b, le-ltb value 1048576 l))
 
--- so a number that leaves its print is seen,
-mark-holds : (mark print : ℕ) → 0 < print → excludes (marked mark print) print ≡ false
-unfolding excludes
-mark-holds mark print l =
-    ⊎-elim (λ m. rw (m .1) (simp (ne-eqb print 0 (λ e. omega arith), eq-eqb print print refl, and-false))) (λ m. rw m) (marked-as mark print)
+    pub is-room : value < 1048576 → Put true
+    unfolding isRoom
+    is-room l = put-by true (rw (lt-ltb slot (length heads) a, lt-ltb slot (length lows) b, lt-ltb value 1048576 l))
 
--- and a print left keeps what was seen,
-mark-keeps : (mark print other : ℕ) → excludes mark other ≡ false → excludes (marked mark print) other ≡ false
-unfolding excludes
-mark-keeps mark print other e =
-    ⊎-elim (λ m. rw (m .1) (⊎-elim (λ z. never refl (rw z at e)) (λ z. rw z at e) (m .0))) (λ m. rw m) (marked-as mark print)
+  -- WHERE THERE IS ROOM the value stands in its slot, and the others stand where they did.
+  module _ (room : isRoom heads lows slot value ≡ true) where
+    abbrev heads-after : List ℕ
+    heads-after = headsWith heads lows slot number value
 
--- in two cases: there is no mark,
-pub no-mark : (marks : List ℕ) (n : ℕ) → length marks ≡ 0 → (isUnmarked marks n ≡ false) × (remarked marks n ≡ marks)
-unfolding isUnmarked remarked
-no-mark [] n e = (refl, refl)
-no-mark (x ∷ marks) n e = absurd (omega arith)
+    abbrev lows-after : List ℕ
+    lows-after = lowsWith heads lows slot value
 
--- or there is one.
-module _ (marks : List ℕ) (n : ℕ) (l : 0 < length marks) where
-  abbrev slot : ℕ
-  slot = n % length marks
+    pub room-inside : (slot < length heads) × (slot < length lows)
+    unfolding isRoom
+    room-inside =
+        let b = both-true (ltb slot (length heads)) _ room in
+        (ltb-true slot (length heads) (b .0), ltb-true slot (length lows) (both-true (ltb slot (length lows)) _ (b .1) .0))
 
-  abbrev print : ℕ → ℕ
-  print = printOf (length marks)
+    as-many : length heads-after ≡ length heads
+    as-many = rw (← put-by true room .1) (length-set heads slot _)
 
-  abbrev mark : ℕ
-  mark = marked (markOf marks n) (print n)
+    head-put : getD heads-after slot 0 ≡ headOf number value
+    head-put = rw (← put-by true room .1) (getD-set-same heads slot _ 0 (room-inside .0))
 
-  pub by-mark : isUnmarked marks n ≡ excludes (markOf marks n) (print n)
-  unfolding isUnmarked
-  by-mark = simp (lt-ltb 0 (length marks) l)
+    value-put : valueAt heads-after lows-after slot ≡ value
+    value-put = rw (head-put, ← put-by true room .2, getD-set-same lows slot (value % 65536) 0 (room-inside .1)) (omega arith)
 
-  stay : (u m : ℕ) → InMarks marks m → InMarks (set marks slot mark) m
-  stay u m h k =
-      rw (length-set marks slot mark)
-      (⊎-elim
-      (λ e. ap (λ x. excludes x (print m)) (e .1) ∙ mark-keeps (markOf marks n) (print n) (print m) (rw (e .0) at (h l)))
-      (λ e. ap (λ x. excludes x (print m)) e ∙ h l)
-      (after-store marks slot (m % length marks) mark))
+    elsewhere : (other : ℕ) → (other ≡ slot → ⊥) → (getD heads-after other 0 ≡ getD heads other 0) × (getD lows-after other 0 ≡ getD lows other 0)
+    elsewhere other n =
+        let p = put-by true room in
+        (rw (← p .1) (getD-set-other heads slot other _ 0 n), rw (← p .2) (getD-set-other lows slot other _ 0 n))
 
-  mark-tells : Tells (λ t m. InMarks marks m) (λ t m. InMarks (set marks slot mark) m) 0 n (excludes (markOf marks n) (print n))
-  mark-tells = (
-    (λ e h. never e (h l)),
-    (λ k. rw (length-set marks slot mark, getD-set-same marks slot mark 0 (mod-lt n l)) (mark-holds (markOf marks n) (print n) (omega arith))),
-    stay,
-  )
+    -- IF THE SLOT WAS EMPTY nothing is forgotten,
+    module _ (empty : getD heads slot 0 ≡ 0) where
+      head-stays : (m k : ℕ) → 0 < tryAt heads m k → tryAt heads-after m k ≡ tryAt heads m k
+      head-stays m k l = rw as-many (elsewhere (slotOf (length heads) m k) (λ e. omega (arith, rw e at l)) .0)
 
-marks-tell : (marks : List ℕ) (n : ℕ) → Tells (λ t m. InMarks marks m) (λ t m. InMarks (remarked marks n) m) 0 n (isUnmarked marks n)
-unfolding remarked
-marks-tell marks n = ⊎-elim (λ l. some l) (λ l. none (omega arith)) (side 0 (length marks))
-  where
-    some : 0 < length marks → Tells (λ t m. InMarks marks m) (λ t m. InMarks (remarked marks n) m) 0 n (isUnmarked marks n)
-    some l = rw (by-mark marks n l) (mark-tells marks n l)
+      value-stays : (m k : ℕ) → 0 < tryAt heads m k
+          → valueAt heads-after lows-after (slotOf (length heads-after) m k) ≡ valueAt heads lows (slotOf (length heads) m k)
+      value-stays m k l = let o = elsewhere (slotOf (length heads) m k) (λ e. omega (arith, rw e at l)) in rw (as-many, o .0, o .1)
 
-    none : length marks ≡ 0 → Tells (λ t m. InMarks marks m) (λ t m. InMarks (remarked marks n) m) 0 n (isUnmarked marks n)
-    none e = rw (no-mark marks n e .0, no-mark marks n e .1) (not-new (λ t m. InMarks marks m) 0 n (λ l. absurd (omega arith)))
+      still-filled : (m k : ℕ) → Filled heads m k → Filled heads-after m k
+      still-filled m k f j l = rw (head-stays m j (f j l)) (f j l)
 
--- BY EITHER: one of them is enough to tell that a number is new.
-module _ (tops marks : List ℕ) (t n : ℕ) where
-  either : isNew tops marks t n ≡ true → Seen tops marks t n → ⊥
-  either e s = go (isAbove tops t n) refl
-    where
-      go : (b : Bool) → isAbove tops t n ≡ b → ⊥
-      go true q = tops-tell tops t n .0 q (s .0)
-      go false q = marks-tell marks n .0 (rw q at e) (s .1)
+      keeps : (m v : ℕ) → Held heads lows m v → Held heads-after lows-after m v
+      keeps m v h =
+          let l = not-empty (tryAt heads m (h .tried)) m (h .tagged) in
+          record {
+            tried = h .tried;
+            filled = still-filled m (h .tried) (h .filled);
+            tagged = rw (head-stays m (h .tried) l) (h .tagged);
+            there = value-stays m (h .tried) l ∙ h .there;
+          }
 
-  -- of what was told, and kept, of a number
-  pub new-tells : {new : Bool} {after marks-after : List ℕ} → new ≡ isNew tops marks t n → after ≡ raised tops t n → marks-after ≡ remarked marks n
-      → Tells (Seen tops marks) (Seen after marks-after) t n new
-  new-tells e f g =
-      rw (e, f, g) (
-        either,
-        (tops-tell tops t n .1, marks-tell marks n .1),
-        λ u m s. (tops-tell tops t n .2 u m (s .0), marks-tell marks n .2 u m (s .1)),
-      )
+      -- and if it was the first on the number's way, the value is held under it.
+      now-held : (k : ℕ) → slot ≡ slotOf (length heads) number k → Filled heads number k → Held heads-after lows-after number value
+      now-held k e f =
+          record {
+            tried = k;
+            filled = still-filled number k f;
+            tagged = rw (as-many, ← e, head-put) (own-tag number value);
+            there = rw (as-many, ← e) value-put;
+          }
 
-  -- WHEN IT IS TOLD, so that the short way is taken: above all of its kind, and where nothing left a mark.
-  pub above-is-new : t < length tops → getD tops t 0 < n → isNew tops marks t n ≡ true
-  above-is-new l a = rw (is-above tops t n l a .0)
-
-  pub unmarked-is-new : 0 < length marks → markOf marks n ≡ 0 → isNew tops marks t n ≡ true
-  unfolding excludes
-  unmarked-is-new l e = rw (by-mark marks n l, e, or-true)
+  -- of what was told, and kept, of a value
+  pub put-holds : {told : Bool} {heads-after lows-after : List ℕ} → IsPut heads lows slot number value told heads-after lows-after → told ≡ true
+      → getD heads slot 0 ≡ 0 → (k : ℕ) → slot ≡ slotOf (length heads) number k → Filled heads number k
+      → Holds number value heads lows heads-after lows-after
+  put-holds p t empty k e f = let room = sym (p .0) ∙ t in rw (p .1, p .2) (now-held room empty k e f, keeps room empty)

@@ -7,8 +7,8 @@ use lib.ListN.{length, length-map}
 use Rattle.common.proofs.Checks.{as-found}
 use Rattle.layout.specs.Layout.{CO}
 use Rattle.bundle.specs.Records.{recordsOf}
-use Rattle.bundle.specs.Helpers.{atPlace}
-use Rattle.bundle.proofs.ChoiceLaws.{chosen-at}
+use Rattle.choice.specs.Helpers.{atPlace}
+use Rattle.choice.proofs.WalkLaws.{chosen-at}
 use Rattle.fares.specs.Legs.{wantedFor, conditionsFor, bodyOf, appliedFor}
 use Rattle.fares.specs.Helpers.{placeOf, cardsBy, placed, answerOf}
 use Rattle.fares.specs.declared.legs.Priced.the-variants.{Refused}

@@ -5,7 +5,7 @@ use mathlib.Core.Path.{sym, _∙_}
 use mathlib.Core.Logic.{⊎-elim}
 use native.Mathlib.Omega.{arith}
 use borrow.Author.Needs.{needs}
-use Rattle.bundle.proofs.ChoiceLaws.{not-at}
+use Rattle.choice.proofs.WalkLaws.{not-at}
 use Rattle.fares.proofs.LegLaws.{Looked, looked-first, looked-found, looked-none, looked-last}
 use Rattle.fares.proofs.records.cards_for.Statement.{statement}
 use Rattle.fares.proofs.records.cards_for.Tie as tie

@@ -5,9 +5,9 @@ use mathlib.Core.List.{map}
 use borrow.Author.Needs.{needs}
 use Rattle.common.proofs.Tests.{fails, holds}
 use Rattle.bundle.specs.Records.{recordsOf}
-use Rattle.bundle.specs.Choice.{choiceOf}
-use Rattle.bundle.specs.Helpers.{atPlace}
-use Rattle.bundle.proofs.ChoiceLaws.{chosen-at, not-at}
+use Rattle.choice.specs.Choice.{choiceOf}
+use Rattle.choice.specs.Helpers.{atPlace}
+use Rattle.choice.proofs.WalkLaws.{chosen-at, not-at}
 use Rattle.layout.specs.Layout.{CO}
 use Rattle.fares.specs.Legs.{wantedFor, conditionsFor}
 use Rattle.fares.specs.Helpers.{placeOf, cardsBy, placed}

@@ -1,0 +1,3 @@
+pub mod Unique
+pub mod Chosen
+pub mod WalkLaws
