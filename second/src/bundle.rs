@@ -1,10 +1,13 @@
 //! Renders "The bundle": cutting it into records, each a part of the lent bytes.
 
 use crate::layout::Table;
+use crate::period::Period;
 use crate::values::digits;
 
 pub const LONGEST_BUNDLE: usize = 1_048_576;
 const MARK_WIDTH: usize = 2;
+
+pub type Key<'a> = (Table, Vec<&'a [u8]>);
 
 #[derive(Clone, Copy, Debug)]
 pub struct Record<'a> {
@@ -29,7 +32,12 @@ impl<'a> Record<'a> {
         self.value(field) == b"Y"
     }
 
-    pub fn key(&self) -> (Table, Vec<&'a [u8]>) {
+    pub fn period(&self) -> Period {
+        let (first, last) = self.table.period_fields();
+        Period::of(self.number_or(first, 0), self.number_or(last, 0))
+    }
+
+    pub fn key(&self) -> Key<'a> {
         let fields = self.table.key_fields();
         (
             self.table,

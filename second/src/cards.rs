@@ -2,8 +2,8 @@
 
 pub mod kinds;
 
-use crate::fare::Source;
 use crate::rounding::Reduction;
+use crate::seasons::Source;
 
 /// An AR record that applies to a leg on its day.
 #[derive(Clone, Copy, Debug, PartialEq, Eq)]

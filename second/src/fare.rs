@@ -1,6 +1,4 @@
-//! Renders "Pricing" and R-13: the records chosen for each leg, the parts, and the fare, which needs no limit.
-
-use std::collections::HashMap;
+//! Renders "Pricing" with: the records chosen for each leg, the parts, and the fare, which needs no limit.
 
 use crate::bundle::Record;
 use crate::cards::{CardRecord, CardUse, CardsOnLeg};
@@ -8,6 +6,7 @@ use crate::layout::{ar, co, Table};
 use crate::question::{LARGEST_PLAIN_FARE, MOST_PERSONS};
 use crate::refusal::Refusal;
 use crate::rounding::{Reduction, Rounding};
+use crate::seasons::{Choice, Seasons, Source};
 use crate::values::{NO_LEAST_PERSONS, NO_MOST_PERSONS};
 use crate::verdict::accepted_records;
 
@@ -48,13 +47,6 @@ pub fn priced_parts(bundle: &[u8], question: &Question) -> Result<Parts, Refusal
     Ok(parts)
 }
 
-/// Which record of an offer is used: the railway's own or the one of 0000.
-#[derive(Clone, Copy, Debug, PartialEq, Eq)]
-pub enum Source {
-    Own,
-    Default,
-}
-
 /// A leg's part and how it came about.
 #[derive(Clone, Debug, PartialEq, Eq)]
 pub struct PricedLeg {
@@ -83,9 +75,11 @@ pub fn priced_legs(bundle: &[u8], question: &Question) -> Result<Vec<PricedLeg>,
 }
 
 fn price_leg(tariff: &Tariff, question: &Question, leg: &Leg) -> Result<PricedLeg, LegFault> {
-    let (source, conditions) = tariff
-        .conditions(question.offer, leg.railway)
-        .ok_or(LegFault::NoConditions)?;
+    let (source, conditions) = match tariff.conditions(question, leg) {
+        Choice::NoRecord => return Err(LegFault::NoConditions),
+        Choice::NoneValid => return Err(LegFault::NoneOnThatDay),
+        Choice::Valid(source, conditions) => (source, conditions),
+    };
     conditions.check(question)?;
     let cards = tariff.cards_on_leg(conditions, question, leg);
     Ok(PricedLeg {
@@ -98,7 +92,7 @@ fn price_leg(tariff: &Tariff, question: &Question, leg: &Leg) -> Result<PricedLe
 
 enum LegFault {
     NoConditions,
-    DayOutside,
+    NoneOnThatDay,
     PersonsOutside,
     ConditionUnread(u8),
 }
@@ -107,7 +101,7 @@ impl LegFault {
     fn number(&self) -> u8 {
         match self {
             LegFault::NoConditions => 12,
-            LegFault::DayOutside => 13,
+            LegFault::NoneOnThatDay => 13,
             LegFault::PersonsOutside => 14,
             LegFault::ConditionUnread(_) => 15,
         }
@@ -121,26 +115,7 @@ impl LegFault {
     }
 }
 
-struct Period {
-    first: u64,
-    last: u64,
-}
-
-impl Period {
-    fn of(record: &Record, first: u8, last: u8) -> Period {
-        Period {
-            first: record.number_or(first, 0),
-            last: record.number_or(last, 0),
-        }
-    }
-
-    fn holds(&self, day: u64) -> bool {
-        self.first <= day && day <= self.last
-    }
-}
-
 struct Conditions {
-    period: Period,
     least_persons: u64,
     most_persons: u64,
     unread: Option<u8>,
@@ -151,7 +126,6 @@ struct Conditions {
 impl Conditions {
     fn of(record: &Record) -> Conditions {
         Conditions {
-            period: Period::of(record, co::FIRST_DAY, co::LAST_DAY),
             least_persons: record.number_or(co::LEAST_PERSONS, NO_LEAST_PERSONS),
             most_persons: record.number_or(co::MOST_PERSONS, NO_MOST_PERSONS),
             unread: first_unread_condition(record),
@@ -161,9 +135,6 @@ impl Conditions {
     }
 
     fn check(&self, question: &Question) -> Result<(), LegFault> {
-        if !self.period.holds(question.day) {
-            return Err(LegFault::DayOutside);
-        }
         if !(self.least_persons..=self.most_persons).contains(&question.persons) {
             return Err(LegFault::PersonsOutside);
         }
@@ -189,7 +160,6 @@ fn reduction_of(record: &Record, discount: u8, rounding: u8, factor: u8) -> Redu
 }
 
 struct CardDiscount {
-    period: Period,
     is_cumulative: bool,
     rating: u64,
     reduction: Reduction,
@@ -198,7 +168,6 @@ struct CardDiscount {
 impl CardDiscount {
     fn of(record: &Record) -> CardDiscount {
         CardDiscount {
-            period: Period::of(record, ar::FIRST_DAY, ar::LAST_DAY),
             is_cumulative: record.is_yes(ar::CUMULATIVE),
             rating: record.number_or(ar::RATING, 0),
             reduction: reduction_of(record, ar::DISCOUNT, ar::ROUNDING, ar::FACTOR),
@@ -206,10 +175,11 @@ impl CardDiscount {
     }
 }
 
+/// By offer and railway, and by offer, railway and code.
 #[derive(Default)]
 struct Tariff {
-    conditions: HashMap<(u64, u64), Conditions>,
-    card_discounts: HashMap<(u64, u64, u64), CardDiscount>,
+    conditions: Seasons<(u64, u64), Conditions>,
+    card_discounts: Seasons<(u64, u64, u64), CardDiscount>,
 }
 
 impl Tariff {
@@ -223,21 +193,26 @@ impl Tariff {
 
     fn add(&mut self, record: &Record) {
         let number = |field| record.number_or(field, 0);
+        let period = record.period();
         match record.table {
             Table::Co => {
                 let key = (number(co::OFFER), number(co::RAILWAY));
-                self.conditions.insert(key, Conditions::of(record));
+                let conditions = Conditions::of(record);
+                self.conditions.add(key, period, conditions);
             }
             Table::Ar => {
                 let key = (number(ar::OFFER), number(ar::RAILWAY), number(ar::CODE));
-                self.card_discounts.insert(key, CardDiscount::of(record));
+                let discount = CardDiscount::of(record);
+                self.card_discounts.add(key, period, discount);
             }
             Table::Re | Table::Me => (),
         }
     }
 
-    fn conditions(&self, offer: u64, railway: u64) -> Option<(Source, &Conditions)> {
-        own_or_default(railway, |place| self.conditions.get(&(offer, place)))
+    fn conditions(&self, question: &Question, leg: &Leg) -> Choice<'_, Conditions> {
+        let key = |railway| (question.offer, railway);
+        let (own, default) = (key(leg.railway), key(EVERY_RAILWAY));
+        self.conditions.choose(&own, &default, question.day)
     }
 
     fn cards_on_leg(&self, conditions: &Conditions, question: &Question, leg: &Leg) -> CardsOnLeg {
@@ -256,13 +231,12 @@ impl Tariff {
     }
 
     fn card_use(&self, question: &Question, leg: &Leg, code: u64) -> CardUse {
-        let found = own_or_default(leg.railway, |place| {
-            self.card_discounts.get(&(question.offer, place, code))
-        });
-        match found {
-            None => CardUse::None,
-            Some((_, discount)) if !discount.period.holds(question.day) => CardUse::OutsideItsDays,
-            Some((source, discount)) => CardUse::Applies(CardRecord {
+        let key = |railway| (question.offer, railway, code);
+        let (own, default) = (key(leg.railway), key(EVERY_RAILWAY));
+        match self.card_discounts.choose(&own, &default, question.day) {
+            Choice::NoRecord => CardUse::None,
+            Choice::NoneValid => CardUse::OutsideItsDays,
+            Choice::Valid(source, discount) => CardUse::Applies(CardRecord {
                 code,
                 is_cumulative: discount.is_cumulative,
                 rating: discount.rating,
@@ -271,11 +245,6 @@ impl Tariff {
             }),
         }
     }
-}
-
-fn own_or_default<T>(railway: u64, find: impl Fn(u64) -> Option<T>) -> Option<(Source, T)> {
-    let own = find(railway).map(|record| (Source::Own, record));
-    own.or_else(|| find(EVERY_RAILWAY).map(|record| (Source::Default, record)))
 }
 
 #[cfg(test)]
@@ -407,19 +376,139 @@ mod tests {
         assert_eq!(total(&drafts, &asked(1, &[8], &[(1181, 1000)])), 1000);
     }
 
+    fn lasting(draft: Draft, first: &str, last: &str) -> Draft {
+        let (first_day, last_day) = draft.table.period_fields();
+        draft.with(first_day, first).with(last_day, last)
+    }
+
+    fn past(draft: Draft) -> Draft {
+        lasting(draft, "20230101", "20231231")
+    }
+
     #[test]
-    fn no_fallback_on_a_date() {
-        let past = |draft: Draft, first, last| draft.with(first, "20230101").with(last, "20231231");
-        let drafts = [past(conditions("1185"), 42, 44), quarter_off("0000")];
-        assert_eq!(refusal(&drafts, &asked(1, &[], &[(1185, 10)])), (13, 0, 0));
+    fn an_own_record_off_its_day_leaves_the_leg_to_0000() {
+        let drafts = [past(conditions("1185")), quarter_off("0000")];
+        assert_eq!(total(&drafts, &asked(1, &[], &[(1185, 1010)])), 758);
+        let drafts = [conditions("1185"), past(quarter_off("0000"))];
+        assert_eq!(total(&drafts, &asked(1, &[], &[(1185, 1010)])), 1010);
         let cards = [
             conditions("0000").with(33, "Y"),
             card_type(),
-            past(card("1185"), 11, 13),
+            past(card("1185").with(ar::DISCOUNT, "050000")),
             card("0000"),
         ];
-        assert_eq!(total(&cards, &asked(1, &[7], &[(1185, 1000)])), 1000);
+        assert_eq!(total(&cards, &asked(1, &[7], &[(1185, 1000)])), 700);
         assert_eq!(total(&cards, &asked(1, &[7], &[(1181, 1000)])), 700);
+    }
+
+    #[test]
+    fn none_valid_is_13_and_none_at_all_is_12() {
+        let asked_once = asked(1, &[], &[(1185, 7)]);
+        for drafts in [
+            vec![past(conditions("1185"))],
+            vec![past(conditions("0000"))],
+            vec![past(conditions("1185")), past(conditions("0000"))],
+        ] {
+            assert_eq!(refusal(&drafts, &asked_once), (13, 0, 0));
+        }
+        for drafts in [
+            vec![conditions("1181")],
+            vec![past(conditions("1181"))],
+            vec![conditions("1185").with(co::OFFER, "00043")],
+            vec![],
+        ] {
+            assert_eq!(refusal(&drafts, &asked_once), (12, 0, 0));
+        }
+    }
+
+    #[test]
+    fn legs_of_one_ticket_find_12_13_or_a_record() {
+        let drafts = [past(conditions("1185")), conditions("1181")];
+        let (priced, none_valid, none) = ((1181, 7), (1185, 7), (9999, 7));
+        let told = |legs: &[(u64, u64)]| refusal(&drafts, &asked(1, &[], legs));
+        assert_eq!(told(&[priced, none_valid, none]), (13, 1, 0));
+        assert_eq!(told(&[priced, none, none_valid]), (12, 1, 0));
+        assert_eq!(told(&[none_valid, none, priced]), (13, 0, 0));
+        assert_eq!(told(&[none, none_valid, priced]), (12, 0, 0));
+        assert_eq!(total(&drafts, &asked(1, &[], &[priced, priced])), 14);
+    }
+
+    #[test]
+    fn each_season_has_its_own_price() {
+        let summer = lasting(conditions("1185"), "20240601", "20240930");
+        let winter = lasting(quarter_off("1185"), "20231201", "20240531");
+        let always = conditions("0000").with(co::DISCOUNT, "050000");
+        let on = |day| Question {
+            day,
+            ..asked(1, &[], &[(1185, 1000)])
+        };
+        let in_order = [winter.clone(), summer.clone()];
+        let later_first = [summer, winter];
+        for drafts in [in_order, later_first] {
+            assert_eq!(refusal(&drafts, &on(20231130)), (13, 0, 0));
+            assert_eq!(total(&drafts, &on(20231201)), 750);
+            assert_eq!(total(&drafts, &on(20240531)), 750);
+            assert_eq!(total(&drafts, &on(20240601)), 1000);
+            assert_eq!(total(&drafts, &on(20240930)), 1000);
+            assert_eq!(refusal(&drafts, &on(20241001)), (13, 0, 0));
+            let beside = [&drafts[..], std::slice::from_ref(&always)].concat();
+            assert_eq!(total(&beside, &on(20240531)), 750);
+            assert_eq!(total(&beside, &on(20240601)), 1000);
+            assert_eq!(total(&beside, &on(20241001)), 500);
+        }
+    }
+
+    #[test]
+    fn each_season_has_its_own_card() {
+        let drafts = [
+            conditions("0000").with(33, "Y"),
+            card_type(),
+            lasting(card("1185"), "20240601", "20240930"),
+            lasting(card("0000"), "20240901", "20241231").with(ar::DISCOUNT, "020000"),
+            lasting(card("1185"), "20240401", "20240531").with(ar::DISCOUNT, "050000"),
+            lasting(card("0000"), "20240101", "20240131").with(ar::DISCOUNT, "010000"),
+        ];
+        for (day, own, other) in [
+            (20240131, 900, 900),
+            (20240201, 1000, 1000),
+            (20240531, 500, 1000),
+            (20240601, 700, 1000),
+            (20240901, 700, 800),
+            (20241001, 800, 800),
+        ] {
+            let on = |railway| Question {
+                day,
+                ..asked(1, &[7], &[(railway, 1000)])
+            };
+            assert_eq!(total(&drafts, &on(1185)), own, "{day}");
+            assert_eq!(total(&drafts, &on(1181)), other, "{day}");
+        }
+    }
+
+    #[test]
+    fn the_record_valid_that_day_decides_about_persons_flags_and_cards() {
+        let june = |draft| lasting(draft, "20240601", "20240630");
+        let asked_once = asked(1, &[7], &[(1185, 1000)]);
+        let (flagged, plain) = (past(conditions("1185").with(31, "Y")), conditions("1185"));
+        assert_eq!(total(&[flagged, plain.clone()], &asked_once), 1000);
+        let drafts = [past(plain.clone()), june(conditions("1185").with(31, "Y"))];
+        assert_eq!(refusal(&drafts, &asked_once), (15, 0, 31));
+        let drafts = [past(plain), june(conditions("1185").with(28, "02"))];
+        assert_eq!(refusal(&drafts, &asked_once), (14, 0, 0));
+        let cards = [
+            past(conditions("1185")),
+            june(conditions("1185").with(33, "Y")),
+            card_type(),
+            card("0000"),
+        ];
+        assert_eq!(total(&cards, &asked_once), 700);
+        let cards = [
+            past(conditions("1185").with(33, "Y")),
+            june(conditions("1185")),
+            card_type(),
+            card("0000"),
+        ];
+        assert_eq!(total(&cards, &asked_once), 1000);
     }
 
     #[test]
@@ -643,8 +732,9 @@ mod tests {
         let question = asked(2, &[7, 9, 5], &[(1185, 1000), (1181, 1000)]);
         assert_eq!(total(&drafts, &question), 2 * 720 + 2 * 500);
         let late = rated("005", "001", "010000", "N", "000")[1].clone();
-        drafts.push(late.with(ar::RAILWAY, "1185").with(13, "20240614"));
-        assert_eq!(total(&drafts, &question), 2 * 800 + 2 * 500);
+        let late = late.with(ar::RAILWAY, "1185").with(13, "20240614");
+        drafts.push(late.with(ar::DISCOUNT, "090000"));
+        assert_eq!(total(&drafts, &question), 2 * 720 + 2 * 500);
     }
 
     #[test]

@@ -3,6 +3,7 @@
 pub mod books;
 pub mod breakage;
 pub mod cards;
+pub mod clashes;
 pub mod corpus;
 pub mod crowded;
 pub mod damage;
@@ -11,6 +12,8 @@ pub mod dates;
 pub mod dearest;
 pub mod drafts;
 pub mod histories;
+pub mod overlaps;
+pub mod periods;
 pub mod questions;
 pub mod random;
 pub mod resent;

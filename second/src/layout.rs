@@ -56,6 +56,8 @@ pub mod co {
 
 pub mod re {
     pub const CODE: u8 = 2;
+    pub const FIRST_DAY: u8 = 9;
+    pub const LAST_DAY: u8 = 11;
 }
 
 pub mod ar {
@@ -74,6 +76,8 @@ pub mod ar {
 pub mod me {
     pub const OFFER: u8 = 2;
     pub const RAILWAY: u8 = 3;
+    pub const FIRST_DAY: u8 = 9;
+    pub const LAST_DAY: u8 = 11;
 }
 
 pub const TRANSFEROR: u8 = 1;
@@ -184,13 +188,23 @@ impl Table {
         }
     }
 
-    /// The fields that tell one record of the table from another.
+    /// Records that agree in these may not share a day.
     pub fn key_fields(self) -> &'static [u8] {
         match self {
             Table::Co => &[co::OFFER, co::RAILWAY],
             Table::Re => &[re::CODE],
             Table::Ar => &[ar::OFFER, ar::RAILWAY, ar::CODE],
             Table::Me => &[me::OFFER, me::RAILWAY],
+        }
+    }
+
+    /// The first day and the last day.
+    pub fn period_fields(self) -> (u8, u8) {
+        match self {
+            Table::Co => (co::FIRST_DAY, co::LAST_DAY),
+            Table::Re => (re::FIRST_DAY, re::LAST_DAY),
+            Table::Ar => (ar::FIRST_DAY, ar::LAST_DAY),
+            Table::Me => (me::FIRST_DAY, me::LAST_DAY),
         }
     }
 
@@ -240,6 +254,18 @@ mod tests {
                 .rows()
                 .windows(2)
                 .all(|pair| pair[0].field < pair[1].field));
+        }
+    }
+
+    #[test]
+    fn each_table_has_the_period_that_its_rows_say() {
+        for table in Table::ALL {
+            let field_of = |rule| {
+                let row = table.rows().iter().find(|row| row.rule == rule);
+                row.unwrap().field
+            };
+            let due = (field_of(Rule::FirstDay), field_of(Rule::LastDay));
+            assert_eq!(table.period_fields(), due);
         }
     }
 

@@ -1,9 +1,10 @@
-//! Renders "The bundle" and "Keys and links": numbers 1 to 7 in their order.
+//! Renders "The bundle", and "Keys and links" with R-2: numbers 1 to 7 in their order.
 
 use std::collections::{HashMap, HashSet};
 
-use crate::bundle::{CutFault, Cutter, Record, LONGEST_BUNDLE};
+use crate::bundle::{CutFault, Cutter, Key, Record, LONGEST_BUNDLE};
 use crate::layout::{ar, co, me, re, Table, ALL_RAILWAYS, TRANSFEROR};
+use crate::period::Period;
 use crate::refusal::Refusal;
 use crate::values::first_broken_field;
 
@@ -60,19 +61,37 @@ fn check_relations(records: &[Record]) -> Result<(), Refusal> {
     };
     let house = first.value(TRANSFEROR);
     let targets = LinkTargets::among(records);
-    let mut places_by_key = HashMap::new();
+    let mut earlier = EarlierRecords::default();
     for (place, record) in records.iter().enumerate() {
         if record.value(TRANSFEROR) != house {
             return Err(Refusal::at(5, place));
         }
-        if let Some(earlier) = places_by_key.insert(record.key(), place) {
-            return Err(Refusal::new(6, place as u64, earlier as u64));
+        if let Some(clash) = earlier.first_clash_on_adding(place, record) {
+            return Err(Refusal::new(6, place as u64, clash as u64));
         }
         if let Some(detail) = targets.missing_for(record) {
             return Err(Refusal::new(7, place as u64, detail));
         }
     }
     Ok(())
+}
+
+/// By key, in their order: the place of each and its days.
+#[derive(Default)]
+struct EarlierRecords<'a>(HashMap<Key<'a>, Vec<(usize, Period)>>);
+
+impl<'a> EarlierRecords<'a> {
+    /// The place of the first of the same key with a day in common.
+    fn first_clash_on_adding(&mut self, place: usize, record: &Record<'a>) -> Option<usize> {
+        let period = record.period();
+        let of_key = self.0.entry(record.key()).or_default();
+        let clash = of_key
+            .iter()
+            .find(|(_, earlier)| earlier.shares_a_day_with(&period))
+            .map(|&(earlier, _)| earlier);
+        of_key.push((place, period));
+        clash
+    }
 }
 
 #[derive(Default)]
@@ -350,7 +369,7 @@ mod tests {
     }
 
     #[test]
-    fn keys_are_per_table_and_without_dates() {
+    fn keys_are_per_table_and_need_their_own_days() {
         let good = [
             conditions("00042", "0000"),
             conditions("00042", "1185"),
@@ -370,7 +389,158 @@ mod tests {
             let again = draft.clone().with(last_day, "20251231");
             let repeated = [&good[..], &[again]].concat();
             assert_eq!(judged(&repeated), no(6, 11, earlier as u64));
+            let later = [&good[..], &[lasting(draft.clone(), "20250101", "20251231")]].concat();
+            assert_eq!(judged(&later), Verdict::Accepted(12));
         }
+    }
+
+    fn lasting(draft: Draft, first: &str, last: &str) -> Draft {
+        let (first_day, last_day) = draft.table.period_fields();
+        draft.with(first_day, first).with(last_day, last)
+    }
+
+    /// Of one key, behind what they need; the places count from the first of these records.
+    fn judged_with_periods(table: Table, periods: &[(&str, &str)]) -> Verdict {
+        let needed = match table {
+            Table::Co | Table::Re => vec![],
+            Table::Ar => vec![discount_type("007"), conditions("00042", "1181")],
+            Table::Me => vec![conditions("00042", "1181")],
+        };
+        let before = needed.len() as u64;
+        let of_period = |&(first, last): &(&str, &str)| lasting(Draft::plain(table), first, last);
+        let drafts = [needed, periods.iter().map(of_period).collect()].concat();
+        match judged(&drafts) {
+            Verdict::Accepted(count) => Verdict::Accepted(count - before),
+            Verdict::Refused {
+                number,
+                place,
+                detail,
+            } => no(number, place - before, detail - before),
+        }
+    }
+
+    #[test]
+    fn records_of_one_key_may_not_share_a_day() {
+        let summer = ("20240601", "20240930");
+        for table in Table::ALL {
+            let beside_summer = |first, last| {
+                let told = judged_with_periods(table, &[summer, (first, last)]);
+                let swapped = judged_with_periods(table, &[(first, last), summer]);
+                assert_eq!(told, swapped);
+                told
+            };
+            for (first, last) in [
+                ("20240101", "20240531"),
+                ("20240530", "20240530"),
+                ("20241001", "20241001"),
+                ("20241201", "99991231"),
+                ("15830101", "20240531"),
+            ] {
+                assert_eq!(beside_summer(first, last), Verdict::Accepted(2));
+            }
+            for (first, last) in [
+                ("20240101", "20240601"),
+                ("20240930", "20241231"),
+                ("20240601", "20240930"),
+                ("20240715", "20240715"),
+                ("20240101", "20241231"),
+                ("20240601", "20240601"),
+                ("20240930", "20240930"),
+                ("15830101", "99991231"),
+            ] {
+                assert_eq!(beside_summer(first, last), no(6, 1, 0), "{first} {last}");
+            }
+        }
+    }
+
+    #[test]
+    fn the_detail_is_the_first_earlier_record_that_shares_a_day() {
+        let (winter, summer) = (("20240101", "20240331"), ("20240701", "20240930"));
+        for table in Table::ALL {
+            let behind = |earlier: [(&str, &str); 2], first, last| {
+                judged_with_periods(table, &[earlier[0], earlier[1], (first, last)])
+            };
+            for (first, last, with_winter_first, with_summer_first) in [
+                ("20240201", "20240831", no(6, 2, 0), no(6, 2, 0)),
+                ("20240331", "20240630", no(6, 2, 0), no(6, 2, 1)),
+                ("20240401", "20240701", no(6, 2, 1), no(6, 2, 0)),
+                (
+                    "20240401",
+                    "20240630",
+                    Verdict::Accepted(3),
+                    Verdict::Accepted(3),
+                ),
+                (
+                    "20241001",
+                    "20241231",
+                    Verdict::Accepted(3),
+                    Verdict::Accepted(3),
+                ),
+            ] {
+                assert_eq!(behind([winter, summer], first, last), with_winter_first);
+                assert_eq!(behind([summer, winter], first, last), with_summer_first);
+            }
+        }
+    }
+
+    #[test]
+    fn the_first_record_that_clashes_is_told() {
+        let periods = [
+            ("20240701", "20240930"),
+            ("20240101", "20240331"),
+            ("20240401", "20240430"),
+            ("20240301", "20240401"),
+            ("20240701", "20240701"),
+        ];
+        assert_eq!(judged_with_periods(Table::Co, &periods), no(6, 3, 1));
+        assert_eq!(
+            judged_with_periods(Table::Co, &periods[..3]),
+            Verdict::Accepted(3)
+        );
+    }
+
+    #[test]
+    fn the_same_days_under_another_key_do_not_clash() {
+        let drafts = [
+            conditions("00042", "1185"),
+            lasting(conditions("00042", "1185"), "20250101", "20250131"),
+            conditions("00042", "1181"),
+            lasting(conditions("00042", "0000"), "20250101", "20250131"),
+            memo("00042", "1185"),
+        ];
+        assert_eq!(judged(&drafts), Verdict::Accepted(5));
+    }
+
+    #[test]
+    fn links_ignore_days() {
+        let of = |year: &str, draft: Draft| {
+            lasting(draft, &format!("{year}0101"), &format!("{year}1231"))
+        };
+        let drafts = [
+            of("2021", additional("00042", "0000", "007")),
+            of("2022", discount_type("007")),
+            of(
+                "2023",
+                conditions("00042", "1185").with(33, "Y").with(37, "Y"),
+            ),
+            of("2024", memo("00042", "1185")),
+        ];
+        assert_eq!(judged(&drafts), Verdict::Accepted(4));
+        for (lost, told) in [(0, no(7, 1, 3)), (1, no(7, 0, 1)), (3, no(7, 2, 4))] {
+            let mut fewer = drafts.to_vec();
+            fewer.remove(lost);
+            assert_eq!(judged(&fewer), told);
+        }
+    }
+
+    #[test]
+    fn a_later_season_of_a_key_is_held_to_5_and_7() {
+        let later = |draft| lasting(draft, "20250101", "20251231");
+        let with = |second| judged(&[conditions("00042", "1185"), second]);
+        let same = conditions("00042", "1185");
+        assert_eq!(with(later(of_other_house(same.clone()))), no(5, 1, 0));
+        assert_eq!(with(later(same.clone().with(33, "Y"))), no(7, 1, 3));
+        assert_eq!(with(same.with(33, "Y")), no(6, 1, 0));
     }
 
     #[test]

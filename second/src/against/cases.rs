@@ -7,23 +7,26 @@ use super::wire::{Answer, Call, Lent, Name};
 use super::Bench;
 use crate::book::words::{empty_book, words_of_book, BOOK_WORDS};
 use crate::bundle::LONGEST_BUNDLE;
+use crate::calendar::{FIRST_DAY, LAST_DAY};
 use crate::generate::books::{
     book_at_the_bound, entry_places, sale_number, sound_book, BookDefect,
 };
 use crate::generate::breakage::{every_breakage, Breakage};
+use crate::generate::clashes::Clashing;
 use crate::generate::corpus::{every_row, Corpus};
+use crate::generate::crowded::seasonal::Seasonal;
 use crate::generate::crowded::Crowded;
 use crate::generate::damage::with_broken_field;
 use crate::generate::dearest::{costliest_offer, most_asked};
 use crate::generate::histories::{any_bundle, drawn_bundles, drawn_step};
-use crate::generate::questions::{question, question_in_limits};
+use crate::generate::questions::{question, question_in_limits, unaimed_question};
 use crate::generate::random::Random;
 use crate::generate::valid::{sized_bundle_with_memos, valid_bundle, valid_bundle_with_cards};
 use crate::layout::Table;
 use crate::program::LONGEST_INPUT;
-use crate::question::{Leg, CARD_SLOTS};
+use crate::question::{Leg, Question, CARD_SLOTS};
 
-/// The last of so many verdict cases judges a crowded bundle as well.
+/// The last of so many verdict cases judges a crowded bundle as well, and the first one of many seasons.
 const CROWDED_ONE_IN: u64 = 8;
 const QUESTIONS_PER_BUNDLE: u64 = 12;
 const STEPS_PER_BOOK: u64 = 9;
@@ -91,7 +94,9 @@ impl Cases {
             None => self.corpus.bundle(cheap_index(turn)),
         };
         bench.ask(&Call::of(Name::Verdict), &Lent::of(&bundle, &[]))?;
+        clashing(bench, random, turn)?;
         match (turn / CROWDED_ONE_IN, turn % CROWDED_ONE_IN) {
+            (turn, 0) => seasonal(bench, random, turn),
             (turn, rest) if rest == CROWDED_ONE_IN - 1 => crowded(bench, random, turn),
             _ => Ok(()),
         }
@@ -136,6 +141,41 @@ fn crowded(bench: &mut Bench, random: &mut Random, turn: u64) -> io::Result<()> 
     let judged = bench.ask_held(&Call::of(Name::Verdict), &lent, &[])?;
     bench.coverage.note_crowded(&crowded, &judged.second);
     Ok(())
+}
+
+fn clashing(bench: &mut Bench, random: &mut Random, turn: u64) -> io::Result<()> {
+    let bundle = Clashing::in_turn(random, turn).bundle();
+    bench.ask(&Call::of(Name::Verdict), &Lent::of(&bundle, &[]))
+}
+
+fn seasonal(bench: &mut Bench, random: &mut Random, turn: u64) -> io::Result<()> {
+    let seasonal = Seasonal::in_turn(random, turn);
+    let lent = Lent::of(&seasonal.bundle, &[]);
+    let judged = bench.ask_held(&Call::of(Name::Verdict), &lent, &[])?;
+    bench.coverage.note_seasonal(&seasonal, &judged.second);
+    if judged.second.number != 0 {
+        return Ok(());
+    }
+    for question in questions_on_seasons(random, &seasonal.bundle) {
+        let told = bench.ask_held(&Call::fare(&question), &lent, &[])?;
+        let coverage = &mut bench.coverage;
+        coverage.note_seasonal_fare(&seasonal, &told.second);
+    }
+    Ok(())
+}
+
+/// Two as any other, one on a day that few records have, and one on an offer that hardly is there.
+fn questions_on_seasons(random: &mut Random, bundle: &[u8]) -> [Question; 4] {
+    let far_off = Question {
+        day: random.pick(&[FIRST_DAY, LAST_DAY]),
+        ..question_in_limits(random, bundle)
+    };
+    [
+        question_in_limits(random, bundle),
+        question_in_limits(random, bundle),
+        far_off,
+        unaimed_question(random),
+    ]
 }
 
 fn fares(bench: &mut Bench, random: &mut Random) -> io::Result<()> {

@@ -1,7 +1,9 @@
 //! Renders "Numbers that turn work away" as a table of what a run has met.
 
+mod keys;
 mod months;
 mod readings;
+mod seasons;
 
 use std::collections::BTreeMap;
 use std::fmt::Write;
@@ -11,7 +13,7 @@ use super::wire::{outcome, Answer, Call, Lent, Name};
 use crate::bundle::{readable_records, LONGEST_BUNDLE};
 use crate::cards::kinds::{cheaper_choices, kinds_of, names, other_rules, uses_beside};
 use crate::cards::CardUse;
-use crate::fare::{priced_legs, PricedLeg, Source};
+use crate::fare::{priced_legs, PricedLeg};
 use crate::generate::cards::{Slots, PAIRS_OF_SLOTS};
 use crate::generate::corpus::every_row;
 use crate::generate::crowded::{step_of, Crowded, Length, Order, STEPS};
@@ -20,6 +22,7 @@ use crate::generate::resent::Change;
 use crate::layout::{co, Table};
 use crate::question::{Question, CARD_SLOTS, LARGEST_CARD, NO_CARDS};
 use crate::rounding::{Reduction, Rounding};
+use crate::seasons::Source;
 
 const ANSWERED: &str = "answered";
 const LINK: &str = "7, detail";
@@ -63,7 +66,8 @@ const OUTCOMES: [&str; 5] = [
 ];
 const EDGES_OF_TILL: [u64; 4] = [0, 65_535, 65_536, u32::MAX as u64];
 const EDGES_OF_SEQUENCE: [u64; 4] = [0, u32::MAX as u64, 1 << 32, u64::MAX];
-const WIDEST_LINE: usize = 110;
+const HEAD: usize = 19;
+const WIDEST_LINE: usize = 113;
 
 type Point = (String, String);
 
@@ -126,10 +130,16 @@ impl Coverage {
     pub fn note(&mut self, call: &Call, lent: &Lent, answer: &Answer) {
         self.note_arguments(call, lent);
         self.note_reading(call, lent, answer);
+        if call.name == Name::Verdict {
+            self.note_keys(lent.bundle, answer);
+        }
         if answer.number != 0 {
             self.meet(call.name.word(), answer.number);
             if matches!(call.name, Name::Fare | Name::Sale) {
                 self.note_refused_cards(&call.question, lent, answer);
+            }
+            if matches!(answer.number, 12 | 13) {
+                self.note_leg_without_record(call, lent, answer);
             }
             return self.note_detail(lent, answer);
         }
@@ -227,9 +237,11 @@ impl Coverage {
             _ => CARDS_IN_SALE,
         };
         self.meet(cards, question.given_cards().len());
-        for leg in priced_legs(lent.bundle, question).unwrap_or_default() {
-            self.note_leg(&leg);
-            self.note_cards(&leg);
+        let legs = priced_legs(lent.bundle, question).unwrap_or_default();
+        self.note_records_of_legs(call, lent, &legs);
+        for leg in &legs {
+            self.note_leg(leg);
+            self.note_cards(leg);
         }
     }
 
@@ -282,8 +294,8 @@ impl Coverage {
             let cell = format!("{} x{}", point.1, self.times_of(&point));
             if point.0 != group || width + cell.len() > WIDEST_LINE {
                 let head = if point.0 == group { "" } else { &point.0 };
-                let _ = write!(table, "\n{head:16}");
-                width = 16;
+                let _ = write!(table, "\n{head:HEAD$}");
+                width = HEAD;
             }
             let _ = write!(table, "  {cell}");
             width += 2 + cell.len();
@@ -362,9 +374,11 @@ fn numbers_of(name: Name) -> &'static [u64] {
 fn every_point() -> Vec<Point> {
     let mut groups = groups_of_numbers();
     groups.extend(groups_of_crowds());
+    groups.extend(keys::groups());
     groups.extend(groups_of_histories());
     groups.extend(readings::groups());
     groups.extend(groups_of_pricing());
+    groups.extend(seasons::groups());
     groups.extend(groups_of_cards());
     groups.extend(groups_of_arguments());
     groups.extend(months::groups());

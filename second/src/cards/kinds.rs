@@ -3,8 +3,8 @@
 use std::cmp::Reverse;
 
 use super::{together, CardRecord, CardUse, CardsOnLeg, Choice};
-use crate::fare::Source;
 use crate::rounding::rounded_once;
+use crate::seasons::Source;
 
 /// What each permitted choice comes to.
 struct Decision {

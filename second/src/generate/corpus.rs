@@ -4,6 +4,7 @@ use std::collections::BTreeMap;
 use std::fmt::Write;
 
 use super::breakage::{every_breakage, Breakage};
+use super::clashes::Clashing;
 use super::damage::{
     oddity, with_broken_field, with_framing_fault, with_noise, with_relation_fault,
     with_two_faults, FramingFault, RelationFault,
@@ -17,6 +18,8 @@ use crate::verdict::Verdict;
 
 /// From this many bundles on, a corpus must reach everything.
 pub const FULL_CORPUS: u64 = 3000;
+/// Shares no divisor with the turns, and spreads them over a short corpus.
+const CLASHES_STRIDE: u64 = 29;
 
 pub struct Corpus {
     seed: u64,
@@ -35,6 +38,9 @@ impl Corpus {
         let random = &mut Random::from_seed_and_index(self.seed, index);
         let round = index / 10;
         match index % 10 {
+            0 if !round.is_multiple_of(2) => {
+                Clashing::in_turn(random, round / 2 * CLASHES_STRIDE).bundle()
+            }
             0 | 1 => valid_bundle(random),
             turn @ 2..=4 => with_broken_field(random, self.breakage(round * 3 + turn - 2)),
             5 => with_relation_fault(random, in_turn(&RelationFault::ALL, round)),

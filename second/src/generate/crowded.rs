@@ -1,16 +1,19 @@
 //! Renders "Keys and links" backwards: bundles of many short records, in several orders, good or with one thing changed.
 
 mod changes;
+pub mod seasonal;
 
 use std::collections::HashSet;
 use std::iter::once;
 use std::mem::take;
 
 use super::drafts::{assemble, Draft};
+use super::periods::timetable;
 use super::random::Random;
 use super::valid::{drawn_record, Habits};
 use crate::bundle::LONGEST_BUNDLE;
 use crate::layout::{ar, co, me, re, Table};
+use crate::period::Period;
 use changes::Change;
 
 const LARGEST_OFFER: u64 = 99_999;
@@ -121,13 +124,18 @@ impl Order {
     }
 }
 
-/// The key stands first in a record, behind the one transferor.
 fn sort_by_table(drafts: &mut [Draft]) {
-    drafts.sort_by_cached_key(|draft| (draft.table, draft.bytes.clone()));
+    drafts.sort_by_cached_key(key_and_period);
 }
 
 fn sort_by_offer(drafts: &mut [Draft]) {
-    drafts.sort_by_cached_key(|draft| (offer_of(draft), draft.table, draft.bytes.clone()));
+    drafts.sort_by_cached_key(|draft| (offer_of(draft), key_and_period(draft)));
+}
+
+fn key_and_period(draft: &Draft) -> (Table, Vec<u64>, Period) {
+    let fields = draft.table.key_fields().iter();
+    let key = fields.map(|&field| draft.number(field)).collect();
+    (draft.table, key, draft.period())
 }
 
 fn offer_of(draft: &Draft) -> Option<u64> {
@@ -184,47 +192,110 @@ struct Crowd {
     additional_lacks_one_in: u64,
     memo_one_in: u64,
     memo_is_due: bool,
+    measure: Measure,
     room: usize,
+    /// Each key takes one of them, or has one record of any period where there is none.
+    timetables: Vec<Vec<Period>>,
     drafts: Vec<Draft>,
+}
+
+/// What the room is counted in.
+enum Measure {
+    Bytes,
+    Records,
+}
+
+impl Measure {
+    fn of(&self, table: Table) -> usize {
+        match self {
+            Measure::Bytes => 2 + table.record_length(),
+            Measure::Records => 1,
+        }
+    }
 }
 
 impl Crowd {
     fn drafts(random: &mut Random, length: Length) -> Vec<Draft> {
-        let codes = random.between(1, length.most_codes()) as usize;
-        let mut crowd = Crowd {
+        let crowd = Crowd {
+            memo_is_due: length != Length::Short,
+            room: length.drawn_size(random),
+            ..Crowd::empty(random, length.most_codes())
+        };
+        crowd.filled(random)
+    }
+
+    /// So many in all, most keys with so many each.
+    fn drafts_of_seasons(random: &mut Random, count: usize, seasons: usize) -> Vec<Draft> {
+        let most_codes = (count / seasons / 8).clamp(1, 12) as u64;
+        let crowd = Crowd {
+            measure: Measure::Records,
+            room: count,
+            timetables: (0..4).map(|_| timetable(random, seasons)).collect(),
+            ..Crowd::empty(random, most_codes)
+        };
+        crowd.filled(random)
+    }
+
+    fn empty(random: &mut Random, most_codes: u64) -> Crowd {
+        let codes = random.between(1, most_codes) as usize;
+        Crowd {
             habits: Habits::drawn(random),
             codes: spaced_numbers(random, LARGEST_CODE).take(codes).collect(),
             additional_lacks_one_in: random.pick(&[2, 5, 20]),
             memo_one_in: random.pick(&[10, 30, 90]),
-            memo_is_due: length != Length::Short,
-            room: length.drawn_size(random),
+            memo_is_due: true,
+            measure: Measure::Bytes,
+            room: 0,
+            timetables: Vec::new(),
             drafts: Vec::new(),
-        };
-        for code in crowd.codes.clone() {
-            crowd.put(random, Table::Re, &[(re::CODE, code)]);
+        }
+    }
+
+    fn filled(mut self, random: &mut Random) -> Vec<Draft> {
+        for code in self.codes.clone() {
+            self.put(random, Table::Re, &[(re::CODE, code)]);
         }
         if random.one_in(2) {
-            crowd.put_many_offers(random);
+            self.put_many_offers(random);
         } else {
-            crowd.put_few_offers(random);
+            self.put_few_offers(random);
         }
-        raise_served_flags(random, &mut crowd.drafts);
-        crowd.drafts
+        raise_served_flags(random, &mut self.drafts);
+        self.drafts
+    }
+
+    fn put(&mut self, random: &mut Random, table: Table, key: &[(u8, u64)]) {
+        if self.timetables.is_empty() {
+            return self.put_one(random, table, key, None);
+        }
+        let place = random.place_in(self.timetables.len());
+        for period in self.timetables[place].clone() {
+            self.put_one(random, table, key, Some(period));
+        }
     }
 
     /// A memo without room is left out; any other record without room is the last one tried.
-    fn put(&mut self, random: &mut Random, table: Table, key: &[(u8, u64)]) {
-        let mut draft = Draft::plain(table);
-        if draft.length_with_mark() > self.room {
+    fn put_one(
+        &mut self,
+        random: &mut Random,
+        table: Table,
+        key: &[(u8, u64)],
+        period: Option<Period>,
+    ) {
+        let needed = self.measure.of(table);
+        if needed > self.room {
             if table != Table::Me {
                 self.room = 0;
             }
             return;
         }
-        self.room -= draft.length_with_mark();
-        draft = drawn_record(random, table, &self.habits);
+        self.room -= needed;
+        let mut draft = drawn_record(random, table, &self.habits);
         for &(field, number) in key {
             draft.write_number(field, number);
+        }
+        if let Some(period) = period {
+            draft.write_period(period);
         }
         self.drafts.push(draft);
     }

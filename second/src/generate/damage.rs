@@ -2,9 +2,11 @@
 
 use super::breakage::Breakage;
 use super::drafts::{assemble, mark_places, Draft};
+use super::overlaps::sharing_a_day;
 use super::random::Random;
 use super::valid::{drawn_record, valid_bundle, valid_drafts, Habits};
 use crate::layout::{ar, co, me, re, Table, TRANSFEROR};
+use crate::period::Period;
 
 pub fn with_broken_field(random: &mut Random, breakage: &Breakage) -> Vec<u8> {
     let mut drafts = valid_drafts(random);
@@ -157,11 +159,32 @@ fn ensure_two_records(random: &mut Random, drafts: &mut Vec<Draft>) {
 fn repeat_a_key(random: &mut Random, drafts: &mut Vec<Draft>) {
     ensure_two_records(random, drafts);
     let original = drafts[random.place_in(drafts.len())].clone();
-    let mut copy = drawn_of_house(random, drafts, original.table);
-    for &field in original.table.key_fields() {
-        copy.write(field, original.value(field));
-    }
+    let copy = of_its_key_and_a_day_of_it(random, drafts, &original);
     put_in(random, drafts, copy);
+}
+
+pub fn of_its_key_and_a_day_of_it(
+    random: &mut Random,
+    drafts: &[Draft],
+    original: &Draft,
+) -> Draft {
+    let period = sharing_a_day(random, original.period());
+    of_its_key(random, drafts, original, period)
+}
+
+pub fn of_its_key(
+    random: &mut Random,
+    drafts: &[Draft],
+    original: &Draft,
+    period: Period,
+) -> Draft {
+    let mut draft = drawn_of_house(random, drafts, original.table);
+    for &field in original.table.key_fields() {
+        draft.write(field, original.value(field));
+    }
+    draft.write(TRANSFEROR, original.value(TRANSFEROR));
+    draft.write_period(period);
+    draft
 }
 
 fn lose_a_record(random: &mut Random, drafts: &mut Vec<Draft>) {
@@ -225,7 +248,7 @@ fn place_of_some(random: &mut Random, drafts: &[Draft], table: Table) -> Option<
     (!places.is_empty()).then(|| random.pick(&places))
 }
 
-fn some_offer(random: &mut Random, drafts: &mut Vec<Draft>) -> u64 {
+pub fn some_offer(random: &mut Random, drafts: &mut Vec<Draft>) -> u64 {
     let place = match place_of_some(random, drafts, Table::Co) {
         Some(place) => place,
         None => {
@@ -236,7 +259,7 @@ fn some_offer(random: &mut Random, drafts: &mut Vec<Draft>) -> u64 {
     drafts[place].number(co::OFFER)
 }
 
-fn some_code(random: &mut Random, drafts: &mut Vec<Draft>) -> u64 {
+pub fn some_code(random: &mut Random, drafts: &mut Vec<Draft>) -> u64 {
     let place = match place_of_some(random, drafts, Table::Re) {
         Some(place) => place,
         None => {

@@ -2,6 +2,7 @@
 
 use crate::bundle::Record;
 use crate::layout::{ar, co, me, re, Row, Rule, Table, TRANSFEROR};
+use crate::period::Period;
 
 #[derive(Clone, Debug, PartialEq, Eq)]
 pub struct Draft {
@@ -22,6 +23,12 @@ impl Draft {
         }
     }
 
+    /// Still to be written all over.
+    pub fn blank(table: Table) -> Draft {
+        let bytes = vec![b' '; table.record_length()];
+        Draft { table, bytes }
+    }
+
     pub fn with(mut self, field: u8, value: &str) -> Draft {
         self.write(field, value.as_bytes());
         self
@@ -37,6 +44,12 @@ impl Draft {
         self.write(field, &decimal(number, width));
     }
 
+    pub fn write_period(&mut self, period: Period) {
+        let (first, last) = self.table.period_fields();
+        self.write_number(first, period.first);
+        self.write_number(last, period.last);
+    }
+
     pub fn record(&self) -> Record<'_> {
         Record {
             table: self.table,
@@ -50,6 +63,14 @@ impl Draft {
 
     pub fn number(&self, field: u8) -> u64 {
         self.record().number_or(field, 0)
+    }
+
+    pub fn period(&self) -> Period {
+        self.record().period()
+    }
+
+    pub fn has_key_of(&self, other: &Draft) -> bool {
+        self.record().key() == other.record().key()
     }
 
     pub fn length_with_mark(&self) -> usize {

@@ -6,7 +6,10 @@ use super::valid::{distinct, drawn_day};
 use crate::bundle::{readable_records, Record};
 use crate::calendar;
 use crate::layout::{ar, co, Table};
+use crate::period::Period;
 use crate::question::{cards_of, Cards, Leg, Question, CARD_SLOTS, LEG_SLOTS};
+
+const AIMED_AT_A_CARD_ONE_IN: u64 = 4;
 
 /// Mostly within its limits and near to what the bundle can price.
 pub fn question(random: &mut Random, bundle: &[u8]) -> Question {
@@ -65,14 +68,32 @@ impl<'a> Shelf<'a> {
         })
     }
 
-    fn conditions_at(&self, railway: u64) -> Option<&Record<'a>> {
-        self.conditions
-            .iter()
-            .find(|record| known(record, co::RAILWAY) == railway)
+    fn conditions_at(&self, railway: u64) -> Vec<&Record<'a>> {
+        let is_there = |record: &&Record| known(record, co::RAILWAY) == railway;
+        self.conditions.iter().filter(is_there).collect()
+    }
+
+    /// Of the railway, or else of 0000; where both have some, of either.
+    fn conditions_for(&self, random: &mut Random, railway: u64) -> Vec<&Record<'a>> {
+        let (own, default) = (self.conditions_at(railway), self.conditions_at(0));
+        let is_by_default = own.is_empty() || !default.is_empty() && random.one_in(4);
+        if is_by_default {
+            default
+        } else {
+            own
+        }
+    }
+
+    /// Of a card that is given, at the railway or at 0000.
+    fn additional_for(&self, cards: &Cards, railway: u64) -> Vec<&Record<'a>> {
+        let is_given = |record: &&Record| cards.contains(&known(record, ar::CODE));
+        let is_there = |record: &&Record| [railway, 0].contains(&known(record, ar::RAILWAY));
+        let given = self.additional.iter().filter(is_given);
+        given.filter(is_there).collect()
     }
 
     fn drawn_railway(&self, random: &mut Random) -> u64 {
-        let by_default = self.conditions_at(0).is_some() && !self.additional.is_empty();
+        let by_default = !self.conditions_at(0).is_empty() && !self.additional.is_empty();
         let railway = if by_default && random.one_in(2) {
             known(&random.pick(&self.additional), ar::RAILWAY)
         } else {
@@ -136,7 +157,12 @@ fn aimed_question(random: &mut Random, shelf: &Shelf) -> Question {
             railway,
             fare: drawn_fare(random),
         };
-        window.narrow_to(shelf, railway);
+        let conditions = shelf.conditions_for(random, railway);
+        window.narrow_to_one_of(random, &conditions);
+        if random.one_in(AIMED_AT_A_CARD_ONE_IN) {
+            let additional = shelf.additional_for(&question.cards, railway);
+            window.narrow_to_days_of_one(random, &additional);
+        }
     }
     question.day = window.drawn_day(random);
     question.persons = window.drawn_persons(random);
@@ -184,8 +210,7 @@ fn drawn_fare(random: &mut Random) -> u64 {
 
 /// Days and persons that suit all legs so far.
 struct Window {
-    first_day: u64,
-    last_day: u64,
+    days: Period,
     least: u64,
     most: u64,
 }
@@ -193,27 +218,38 @@ struct Window {
 impl Window {
     fn open() -> Window {
         Window {
-            first_day: calendar::FIRST_DAY,
-            last_day: calendar::LAST_DAY,
+            days: Period::of(calendar::FIRST_DAY, calendar::LAST_DAY),
             least: 1,
             most: 99,
         }
     }
 
-    fn narrow_to(&mut self, shelf: &Shelf, railway: u64) {
-        let record = shelf
-            .conditions_at(railway)
-            .or_else(|| shelf.conditions_at(0));
-        if let Some(record) = record {
-            self.first_day = self.first_day.max(known(record, co::FIRST_DAY));
-            self.last_day = self.last_day.min(known(record, co::LAST_DAY));
+    fn narrow_to_one_of(&mut self, random: &mut Random, conditions: &[&Record]) {
+        if let Some(record) = self.narrow_to_days_of_one(random, conditions) {
             self.least = self.least.max(known(record, co::LEAST_PERSONS));
             self.most = self.most.min(record.number_or(co::MOST_PERSONS, 99));
         }
     }
 
+    /// One that has some of the days, if there is any.
+    fn narrow_to_days_of_one<'a, 'b>(
+        &mut self,
+        random: &mut Random,
+        records: &[&'b Record<'a>],
+    ) -> Option<&'b Record<'a>> {
+        let has_some = |record: &&&Record| record.period().shares_a_day_with(&self.days);
+        let open: Vec<&Record> = records.iter().filter(has_some).copied().collect();
+        if open.is_empty() {
+            return None;
+        }
+        let record = random.pick(&open);
+        let Period { first, last } = record.period();
+        self.days = Period::of(self.days.first.max(first), self.days.last.min(last));
+        Some(record)
+    }
+
     fn drawn_day(&self, random: &mut Random) -> u64 {
-        let (first, last) = (self.first_day, self.last_day);
+        let Period { first, last } = self.days;
         let is_open = first <= last && calendar::is_real_day(first) && calendar::is_real_day(last);
         if !is_open {
             return drawn_day(random, calendar::FIRST_DAY, calendar::LAST_DAY);

@@ -1,9 +1,11 @@
 //! Renders "The bundle" and "Keys and links" as a maker of bundles that keep every rule.
 
 use super::drafts::{assemble, decimal, Draft};
+use super::periods::{some_of, timetable};
 use super::random::Random;
 use crate::calendar;
 use crate::layout::{ar, co, me, re, Row, Rule, Table, TRANSFEROR};
+use crate::period::Period;
 
 pub fn valid_bundle(random: &mut Random) -> Vec<u8> {
     assemble(&valid_drafts(random))
@@ -23,6 +25,8 @@ pub fn valid_drafts(random: &mut Random) -> Vec<Draft> {
 /// Traits that the records of one bundle share, so that questions can be met by many of them.
 pub struct Habits {
     transferor: u64,
+    /// The seasons that its records are for, if it has any.
+    timetable: Vec<Period>,
     periods_scatter: bool,
     persons_narrow_one_in: u64,
     unread_flag_one_in: u64,
@@ -35,6 +39,7 @@ impl Habits {
     pub fn drawn(random: &mut Random) -> Habits {
         Habits {
             transferor: random.between_with_ends(1, 9999),
+            timetable: drawn_timetable(random),
             periods_scatter: random.one_in(5),
             persons_narrow_one_in: random.pick(&[1, 4, 20]),
             unread_flag_one_in: random.pick(&[4, 40, 400, 400]),
@@ -49,6 +54,19 @@ impl Habits {
             ..Habits::drawn(random)
         }
     }
+
+    /// For the records of one key.
+    fn drawn_periods(&self, random: &mut Random) -> Vec<Period> {
+        match self.timetable.is_empty() {
+            true => vec![drawn_period(random, self)],
+            false => some_of(random, &self.timetable),
+        }
+    }
+}
+
+fn drawn_timetable(random: &mut Random) -> Vec<Period> {
+    let seasons = random.pick(&[0, 0, 0, 0, 2, 2, 3, 4]);
+    timetable(random, seasons)
 }
 
 struct World {
@@ -102,7 +120,7 @@ impl World {
     fn discount_types(&self, random: &mut Random) -> Vec<Draft> {
         self.codes
             .iter()
-            .map(|&code| self.record(random, Table::Re, &[(re::CODE, code)]))
+            .flat_map(|&code| self.records(random, Table::Re, &[(re::CODE, code)]))
             .collect()
     }
 
@@ -112,28 +130,33 @@ impl World {
         for &railway in &self.railways {
             if railway == sure || random.one_in(2) {
                 let key = [(co::OFFER, offer), (co::RAILWAY, railway)];
-                drafts.push(self.record(random, Table::Co, &key));
+                drafts.extend(self.records(random, Table::Co, &key));
             }
             for &code in &self.codes {
                 if !random.one_in(self.additional_lacks_one_in) {
                     let key = [(ar::OFFER, offer), (ar::RAILWAY, railway), (ar::CODE, code)];
-                    drafts.push(self.record(random, Table::Ar, &key));
+                    drafts.extend(self.records(random, Table::Ar, &key));
                 }
             }
             if random.one_in(7) {
                 let key = [(me::OFFER, offer), (me::RAILWAY, railway)];
-                drafts.push(self.record(random, Table::Me, &key));
+                drafts.extend(self.records(random, Table::Me, &key));
             }
         }
         drafts
     }
 
-    fn record(&self, random: &mut Random, table: Table, key: &[(u8, u64)]) -> Draft {
-        let mut draft = drawn_record(random, table, &self.habits);
-        for &(field, number) in key {
-            draft.write_number(field, number);
-        }
-        draft
+    fn records(&self, random: &mut Random, table: Table, key: &[(u8, u64)]) -> Vec<Draft> {
+        let periods = self.habits.drawn_periods(random).into_iter();
+        let of_period = |period| {
+            let mut draft = drawn_record(random, table, &self.habits);
+            for &(field, number) in key {
+                draft.write_number(field, number);
+            }
+            draft.write_period(period);
+            draft
+        };
+        periods.map(of_period).collect()
     }
 }
 
@@ -190,7 +213,7 @@ fn arrange(random: &mut Random, drafts: &mut [Draft]) {
 
 /// Keeps every rule of its table; flags 33 and 37 are N.
 pub fn drawn_record(random: &mut Random, table: Table, habits: &Habits) -> Draft {
-    let mut draft = Draft::plain(table);
+    let mut draft = Draft::blank(table);
     let persons = drawn_persons(random, habits);
     let rounding = random.pick(b"+-0N");
     let period = drawn_period(random, habits);
@@ -206,8 +229,8 @@ pub fn drawn_record(random: &mut Random, table: Table, habits: &Habits) -> Draft
             Rule::DiscountOrBlank => drawn_discount(random),
             Rule::Rounding => vec![rounding],
             Rule::Factor => drawn_factor(random, rounding),
-            Rule::FirstDay => decimal(period.0, 8),
-            Rule::LastDay => decimal(period.1, 8),
+            Rule::FirstDay => decimal(period.first, 8),
+            Rule::LastDay => decimal(period.last, 8),
         };
         draft.write(row.field, &value);
     }
@@ -330,7 +353,15 @@ fn drawn_factor(random: &mut Random, rounding: u8) -> Vec<u8> {
     decimal(factor, 3)
 }
 
-fn drawn_period(random: &mut Random, habits: &Habits) -> (u64, u64) {
+fn drawn_period(random: &mut Random, habits: &Habits) -> Period {
+    if !habits.timetable.is_empty() {
+        return random.pick(&habits.timetable);
+    }
+    let (first, last) = drawn_days(random, habits);
+    Period::of(first, last)
+}
+
+fn drawn_days(random: &mut Random, habits: &Habits) -> (u64, u64) {
     let edges = [
         (calendar::FIRST_DAY, calendar::FIRST_DAY),
         (calendar::LAST_DAY, calendar::LAST_DAY),

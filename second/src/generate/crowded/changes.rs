@@ -3,7 +3,9 @@
 use std::collections::HashSet;
 
 use super::LARGEST_RAILWAY;
-use crate::generate::damage::{another, drawn_of_house, unused_code, unused_offer};
+use crate::generate::damage::{
+    another, drawn_of_house, of_its_key_and_a_day_of_it, unused_code, unused_offer,
+};
 use crate::generate::drafts::Draft;
 use crate::generate::random::Random;
 use crate::layout::{ar, co, re, Table, TRANSFEROR};
@@ -71,13 +73,10 @@ impl Change {
     }
 }
 
-/// A new record with the key of the earlier one is put in at the later place.
+/// A new record with the key of the earlier one, and a day of it, is put in at the later place.
 fn repeat_key(random: &mut Random, drafts: &mut Vec<Draft>, earlier: usize, later: usize) {
     let original = drafts[earlier].clone();
-    let mut copy = drawn_of_house(random, drafts, original.table);
-    for &field in original.table.key_fields() {
-        copy.write(field, original.value(field));
-    }
+    let copy = of_its_key_and_a_day_of_it(random, drafts, &original);
     drafts.insert(later, copy);
 }
 
