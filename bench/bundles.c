@@ -197,7 +197,7 @@ int is_sorted(const struct bundle *b) {
     for (size_t at = 0; at < b->length; at += length_at(b, at)) {
         enum table table = table_at(b, at);
         const uint8_t *key = b->bytes + at + MARK + 4;
-        if (last[table] != NULL && memcmp(last[table], key, KEY_LENGTHS[table]) >= 0) return 0;
+        if (last[table] != NULL && memcmp(last[table], key, KEY_LENGTHS[table]) > 0) return 0;
         last[table] = key;
     }
     return 1;
@@ -218,21 +218,106 @@ void shuffle(struct bundle *b) {
     }
 }
 
-/* ---- other cards */
+/* ---- seasons; a record ends with its first day, its version and its last day */
 
-enum { DISCOUNT_AT = 17, LAST_DAY_AT = 42 };
+enum { DAY = 8, PERIOD = 18, KEY_AT = MARK + 4, RAILWAY_AT = KEY_AT + 5 };
+
+static uint8_t *first_day_at(struct bundle *b, size_t at) { return b->bytes + at + length_at(b, at) - PERIOD; }
+
+static uint8_t *last_day_at(struct bundle *b, size_t at) { return b->bytes + at + length_at(b, at) - DAY; }
+
+static unsigned number_at(const uint8_t *digits, int count) {
+    unsigned value = 0;
+    for (int k = 0; k < count; k++) value = value * 10 + (unsigned)(digits[k] - '0');
+    return value;
+}
+
+static void write_number(uint8_t *to, int count, unsigned value) {
+    for (int k = count - 1; k >= 0; k--, value /= 10) to[k] = (uint8_t)('0' + value % 10);
+}
+
+static void write_period(struct bundle *b, size_t at, unsigned first_day, unsigned last_day) {
+    write_number(first_day_at(b, at), DAY, first_day);
+    write_number(last_day_at(b, at), DAY, last_day);
+}
+
+static void write_season(struct bundle *b, size_t at, unsigned season) {
+    unsigned year = (2024 + season / 2) * 10000;
+    if (season % 2 == 0) write_period(b, at, year + 601, year + 1130);
+    else write_period(b, at, year + 1201, year + 10000 + 531);
+}
+
+static unsigned season_at(struct bundle *b, size_t at) {
+    unsigned first_day = number_at(first_day_at(b, at), DAY);
+    return (first_day / 10000 - 2024) * 2 + (first_day % 10000 == 1201);
+}
+
+static void add_season(struct bundle *b, const struct bundle *once, size_t from, unsigned season) {
+    size_t at = b->length, bytes = length_at(once, from);
+    memcpy(b->bytes + at, once->bytes + from, bytes);
+    write_season(b, at, season);
+    b->length += bytes;
+    b->records++;
+}
+
+static void add_key_by_key(struct bundle *b, const struct bundle *once, unsigned seasons) {
+    for (size_t at = 0; at < once->length; at += length_at(once, at))
+        for (unsigned season = 0; season < seasons; season++) add_season(b, once, at, season);
+}
+
+static void add_season_by_season(struct bundle *b, const struct bundle *once, unsigned seasons) {
+    for (unsigned season = 0; season < seasons; season++)
+        for (size_t at = 0; at < once->length; at += length_at(once, at)) add_season(b, once, at, season);
+}
+
+void make_seasonal(struct bundle *b, struct recipe recipe, size_t size, unsigned seasons, enum order order) {
+    static struct bundle once;
+    make_bundle(&once, recipe, size / seasons);
+    b->length = b->records = 0;
+    if (order == BY_SEASON) add_season_by_season(b, &once, seasons);
+    else add_key_by_key(b, &once, seasons);
+    if (order == BY_CHANCE) shuffle(b);
+}
+
+unsigned own_railway(unsigned railway, unsigned season, unsigned seasons) { return railway * seasons + season; }
+
+void give_own_keys(struct bundle *b, unsigned seasons) {
+    for (size_t at = 0; at < b->length; at += length_at(b, at)) {
+        unsigned season = season_at(b, at);
+        uint8_t *code = b->bytes + at + KEY_AT, *railway = b->bytes + at + RAILWAY_AT;
+        if (table_at(b, at) == RE) write_number(code, 3, 1 + (number_at(code, 3) - 1) * seasons + season);
+        else write_number(railway, 4, own_railway(number_at(railway, 4), season, seasons));
+        write_period(b, at, 20240101, 20241231);
+    }
+}
+
+/* ---- other cards and conditions */
+
+enum { DISCOUNT_OF_CO_AT = 128, DISCOUNT_OF_AR_AT = 17 };
+
+static void draw_table(struct bundle *b, enum table table, void (*draw)(uint8_t *record)) {
+    for (size_t at = 0; at < b->length; at += length_at(b, at)) {
+        if (table_at(b, at) != table) continue;
+        draw(b->bytes + at + MARK);
+        if (chance(5) == 0) memcpy(last_day_at(b, at), first_day_at(b, at), DAY);
+    }
+}
 
 static void draw_card(uint8_t *record) {
     char said[16];
     snprintf(said, sizeof said, "%06u%c%03uN%c%03u", chance(100001), "YN"[chance(2)], 1 + chance(3), "+-0N"[chance(4)], 1 + chance(999));
-    memcpy(record + DISCOUNT_AT - 1, said, strlen(said));
-    if (chance(5) == 0) memcpy(record + LAST_DAY_AT - 1, "20240531", 8);
+    memcpy(record + DISCOUNT_OF_AR_AT - 1, said, strlen(said));
 }
 
-void draw_cards(struct bundle *b) {
-    for (size_t at = 0; at < b->length; at += length_at(b, at))
-        if (memcmp(b->bytes + at, "AR", MARK) == 0) draw_card(b->bytes + at + MARK);
+void draw_cards(struct bundle *b) { draw_table(b, AR, draw_card); }
+
+static void draw_condition(uint8_t *record) {
+    char said[16];
+    snprintf(said, sizeof said, "%06u%c%03u", chance(100001), "+-0N"[chance(4)], 1 + chance(999));
+    memcpy(record + DISCOUNT_OF_CO_AT - 1, said, strlen(said));
 }
+
+void draw_conditions(struct bundle *b) { draw_table(b, CO, draw_condition); }
 
 /* ---- damage */
 
@@ -261,6 +346,19 @@ static void change_transferor(struct bundle *b) { b->bytes[start_of(b, chance((u
 
 static void change_offer(struct bundle *b) { b->bytes[start_of(b, chance((unsigned)b->records)) + MARK + 4 + chance(3)] = '7'; }
 
+static void copy_period(struct bundle *b) {
+    size_t from = start_of(b, chance((unsigned)b->records)), to = start_of(b, chance((unsigned)b->records));
+    memmove(first_day_at(b, to), first_day_at(b, from), PERIOD);
+}
+
+/* One record's first or last day over another's: where they are of one season or of neighbours, the periods of a key then share a day or more, or
+ * the last day is before the first. */
+static void copy_day(struct bundle *b) {
+    size_t from = start_of(b, chance((unsigned)b->records)), to = start_of(b, chance((unsigned)b->records));
+    uint8_t *over = chance(2) ? first_day_at(b, to) : last_day_at(b, to);
+    memmove(over, chance(2) ? first_day_at(b, from) : last_day_at(b, from), DAY);
+}
+
 static void remove_record(struct bundle *b) {
     size_t at = start_of(b, chance((unsigned)b->records)), n = length_at(b, at);
     memmove(b->bytes + at, b->bytes + at + n, b->length - at - n);
@@ -269,6 +367,6 @@ static void remove_record(struct bundle *b) {
 
 void damage(struct bundle *b) {
     static void (*const WAYS[])(struct bundle *) = {change_byte, change_byte, change_byte, cut_end, copy_start, copy_start, change_transferor,
-                                                    change_offer, remove_record};
+                                                    change_offer, copy_period, copy_day, copy_day, remove_record};
     WAYS[chance(sizeof WAYS / sizeof *WAYS)](b);
 }

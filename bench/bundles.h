@@ -39,11 +39,23 @@ void make_bundle(struct bundle *b, struct recipe recipe, size_t size);
 /* What a made bundle is, in words that stand until the next call. */
 const char *words_of(const struct bundle *b, struct recipe recipe, size_t size);
 
-/* Whether the keys of each table rise through the bundle. */
+/* Whether the keys of each table rise through the bundle, or stay as they are for some records. */
 int is_sorted(const struct bundle *b);
 
 /* The same records in an order by chance. */
 void shuffle(struct bundle *b);
+
+/* A bundle in which each key has so many records, one a season: the first from June to November 2024, the next from December to May, and so on. By
+ * key the seasons of a key follow each other, by season all records of the next season follow. */
+enum order { BY_KEY, BY_SEASON, BY_CHANCE };
+void make_seasonal(struct bundle *b, struct recipe recipe, size_t size, unsigned seasons, enum order order);
+
+/* The same records in the same order, each with a key of its own and valid throughout 2024: another code for RE, else another railway. The recipe
+ * has one code, and records for all railways. */
+void give_own_keys(struct bundle *b, unsigned seasons);
+
+/* The railway that a record gets in this way. */
+unsigned own_railway(unsigned railway, unsigned season, unsigned seasons);
 
 /* One record more. Whether a CO needs an AR and an ME is as the recipe has these. */
 void add_re(struct bundle *b, unsigned code);
@@ -63,9 +75,10 @@ void break_last_field(struct bundle *b);
 /* Breaks a bundle in one of several ways, or by luck leaves it good. */
 void damage(struct bundle *b);
 
-/* Draws what the AR records say anew: discount, whether it is applied together with others, rating, rounding and last day. The bundle stays
- * good. */
+/* Draws what the AR records say anew: discount, whether it is applied together with others, rating and rounding; or the discount and rounding of the
+ * CO records. One in five is then valid on its first day alone. The bundle stays good. */
 void draw_cards(struct bundle *b);
+void draw_conditions(struct bundle *b);
 
 /* A number below `limit`. */
 unsigned chance(unsigned limit);

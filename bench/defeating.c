@@ -5,22 +5,23 @@
 
 #include <stdio.h>
 #include <stdlib.h>
-#include <string.h>
 
-/* What the short cuts are made of, as crates/bundle/src has them for a bundle of this size. A number is made of digits, their bytes to the base
- * BASE, and of a table. A key whose number is above all earlier ones of its table is new; so is one whose mark, at number % MARKS, is empty or has
- * only seen another print. A link looks first where a hint says, by the number of its offer or code: it passes over up to TRIES slots that a tag
- * shows to be others', from number % HINTS on and each STRIDE further, and believes the one behind them. Records take empty slots as they come; a
- * link that its hint does not help looks at some records from where the last of its kind was found, then walks from the start, and puts what it finds
- * into that slot. */
-enum { BASE = 19, TABLE_STEP = 1000003, MARKS = 65536, PRINTS = 254, HINTS = 12288, TRIES = 16, STRIDE = 509 };
+/* What the short cuts are made of, as crates/seen/src and crates/bundle/src have them for a bundle of this size. A number is made of digits, their
+ * bytes to the base BASE, and of a table. The places of the records before one are kept in a table of SLOTS: from the home of its number a record
+ * passes all slots to the first empty one, is compared with the records whose tag is its own, and is put there. A link looks first where a hint
+ * says, by the number of its offer or code: it passes over up to TRIES slots that a tag shows to be others', from number % HINTS on and each STRIDE
+ * further, and believes the one behind them. Records take empty slots as they come; a link that its hint does not help looks at some records from
+ * where the last of its kind was found, then walks from the start, and puts what it finds into that slot. */
+enum { BASE = 19, TABLE_STEP = 1000003, SLOTS = 26003, TAGS = 15, HINTS = 12288, TRIES = 16, STRIDE = 509 };
 enum table { CO, RE, AR };
+
+static const uint64_t RANGE = 4294967296, PRIME = 4294967291, FACTOR = 2869860233;
 
 /* Each code has an RE, and OFFERS_EACH CO whose offers start from the same slot as the code. CO that no AR wants come before them and take all that
  * is passed over, so that in the one slot behind code and offers put each other out. The codes are such that share slots, which saves CO. AR go from
  * the last code and the last offer down to the first and again: nearly each link is walked for. Each turn has codes
- * meet other offers, for more keys. The keys of all AR have few marks, which soon have seen two prints and prove nothing. */
-enum { CODES = 12, OFFERS_EACH = 3, OFFERS = CODES * OFFERS_EACH, TURN = 1000, RAILWAYS = 10000, FEW_MARKS = 512, KEY = 12, BYTES_OF_AR = 51 };
+ * meet other offers, for more keys. The keys of all AR have one tag and few homes, so that each is compared with nearly all before it. */
+enum { CODES = 12, OFFERS_EACH = 3, OFFERS = CODES * OFFERS_EACH, TURN = 1000, RAILWAYS = 10000, FEW_HOMES = 2800, KEY = 12, BYTES_OF_AR = 51 };
 
 static const unsigned CODE_LIST[CODES] = {8, 184, 717, 893, 9, 185, 718, 894, 109, 285, 818, 994};
 static const struct recipe NO_LINKS = {"", 1, 0, 0, 0, 1, 0, 0};
@@ -38,6 +39,10 @@ static uint64_t number_of(enum table table, int digits, uint64_t value) {
 static uint64_t key_number(unsigned offer, unsigned railway, unsigned code) {
     return number_of(AR, KEY, offer * (uint64_t)10000000 + railway * 1000 + code);
 }
+
+static unsigned home_of(uint64_t number) { return (unsigned)(number % PRIME * FACTOR % RANGE * SLOTS / RANGE); }
+
+static uint8_t tag_of(uint64_t number) { return (uint8_t)(1 + number % TAGS); }
 
 static unsigned slot_of_code(unsigned code) { return (unsigned)(number_of(RE, 3, code) % HINTS); }
 
@@ -74,11 +79,13 @@ static void add_needed(struct bundle *b) {
     for (unsigned k = 0; k < OFFERS; k++) add_co(b, NO_LINKS, wanted_offer(k), 1);
 }
 
+static int is_crowded(uint64_t number) { return home_of(number) < FEW_HOMES && tag_of(number) == 1; }
+
 /* The railway of the next key of an offer and a code, from the last one down. */
 static unsigned next_railway(unsigned offer, unsigned code, unsigned *left) {
     while (*left > 0)
-        if (key_number(offer, --*left, code) % MARKS < FEW_MARKS) return *left;
-    demand(0, "there are too few keys with these marks");
+        if (is_crowded(key_number(offer, --*left, code))) return *left;
+    demand(0, "there are too few keys with this tag and these homes");
     return 0;
 }
 
@@ -105,29 +112,36 @@ static void make_defeating(struct bundle *b, int needed_last) {
 
 /* ---- how far it is defeated */
 
-/* AR of the bundle that neither the greatest number nor the marks of AR prove to be new. */
-static unsigned unproved(const struct bundle *b) {
-    static uint8_t marks[MARKS];
-    memset(marks, 0, sizeof marks);
-    uint64_t greatest = 0;
-    unsigned count = 0;
+static uint64_t number_at(const struct plain_table *table, const uint8_t *record) {
+    if (table == &PLAIN_RE) return number_of(RE, 3, (uint64_t)plain_number(record, 5, 3));
+    if (table == &PLAIN_CO) return number_of(CO, 9, (uint64_t)plain_number(record, 5, 9));
+    return number_of(AR, KEY, (uint64_t)plain_number(record, 5, KEY));
+}
+
+/* Puts a record's tag into the first empty slot of its number; with how many records it was compared. */
+static size_t put_tag(uint8_t *tags, uint64_t number) {
+    unsigned slot = home_of(number);
+    size_t compared = 0;
+    for (; tags[slot] != 0; slot = (slot + 1) % SLOTS) compared += tags[slot] == tag_of(number);
+    tags[slot] = tag_of(number);
+    return compared;
+}
+
+/* With how many records each of the bundle is compared, on the average. */
+static double compared(const struct bundle *b) {
+    uint8_t tags[SLOTS] = {0};
+    size_t pairs = 0;
     for (size_t at = 0; at < b->length;) {
         const struct plain_table *table = plain_table_at(b->bytes + at, b->length - at);
-        const uint8_t *record = b->bytes + at + PLAIN_MARK;
+        pairs += put_tag(tags, number_at(table, b->bytes + at + PLAIN_MARK));
         at += plain_step(table);
-        if (table != &PLAIN_AR) continue;
-        uint64_t number = number_of(AR, KEY, (uint64_t)plain_number(record, 5, KEY));
-        uint8_t *mark = &marks[number % MARKS], print = (uint8_t)(1 + number / MARKS % PRINTS);
-        count += number <= greatest && *mark != 0 && (*mark == print || *mark == PRINTS + 1);
-        *mark = *mark == 0 || *mark == print ? print : PRINTS + 1;
-        if (number > greatest) greatest = number;
     }
-    return count;
+    return (double)pairs / (double)b->records;
 }
 
 static void compare(int runs, const char *what, int needed_last) {
     make_defeating(&bundle, needed_last);
-    printf("%s: %zu records in %zu bytes, %u of them proved to be new by no short cut\n", what, bundle.records, bundle.length, unproved(&bundle));
+    printf("%s: %zu records in %zu bytes, each compared with %.0f others for its key\n", what, bundle.records, bundle.length, compared(&bundle));
     tell_verdict(runs, what, &bundle);
 }
 

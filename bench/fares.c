@@ -7,7 +7,7 @@
 #include <stdlib.h>
 #include <string.h>
 
-enum { ASKED = 600, MOST_CARDS = 4 };
+enum { ASKED = 1200, MOST_CARDS = 4 };
 
 static struct bundle bundle, broken;
 
@@ -37,9 +37,14 @@ static void draw_question_cards(offers_question *q) {
     if (chance(8) == 0) q->cards[chance(MOST_CARDS)] = (uint32_t[]){0, 1, 2, 1000}[chance(4)];
 }
 
+/* A day in the middle, one at either end of a period, or none that there is. */
+static uint32_t random_day(void) {
+    static const uint32_t DAYS[] = {20240101, 20240230, 20240531, 20240601, 20241130, 20241201, 20241231, 20250101, 20250531, 20250601};
+    return chance(2) ? BUNDLE_DAY : DAYS[chance(sizeof DAYS / sizeof *DAYS)];
+}
+
 static offers_question random_question(void) {
-    static const uint32_t DAYS[] = {BUNDLE_DAY, 20240101, 20241231, 20250101, 20240230};
-    offers_question q = {.offer = 1 + chance(4), .day = chance(4) ? BUNDLE_DAY : DAYS[chance(5)], .persons = chance(8), .count = 1 + chance(8)};
+    offers_question q = {.offer = 1 + chance(4), .day = random_day(), .persons = chance(8), .count = 1 + chance(8)};
     draw_question_cards(&q);
     for (uint32_t k = 0; k < q.count; k++) q.legs[k] = (offers_leg){1 + chance(6), chance(chance(2) ? 1000000 : 1000)};
     return q;
@@ -59,17 +64,26 @@ static void make_random_bundle(struct bundle *b, unsigned k) {
     if (k % 3 == 0) change_conditions(b);
 }
 
+/* Summer and winter records that all say something else, in each of the orders. */
+static void make_random_seasonal(struct bundle *b, unsigned k) {
+    make_seasonal(b, k % 2 == 0 ? MIXED : FOUR_CARDS, k % 2 == 0 ? 10000 : 20000, 2, (enum order)(k % 3));
+    draw_cards(b);
+    draw_conditions(b);
+}
+
 static void compare_on_random(void) {
-    unsigned answered = 0, with_several = 0;
+    unsigned found[OFFERS_CARD_TWICE + 1] = {0}, with_several = 0;
     for (unsigned k = 0; k < ASKED; k++) {
-        make_random_bundle(&broken, k);
+        if (k < ASKED / 2) make_random_bundle(&broken, k);
+        else make_random_seasonal(&broken, k);
         offers_question question = random_question();
-        if (agreed(&broken, question).number != 0) continue;
-        answered++;
-        with_several += question.cards[1] != 0;
+        uint64_t number = agreed(&broken, question).number;
+        found[number]++;
+        with_several += number == 0 && question.cards[1] != 0;
     }
-    printf("The same fare for %d random questions, %u of them answered, %u with several cards.\n", ASKED, answered, with_several);
-    demand(answered > ASKED / 10 && with_several > ASKED / 20, "hardly a random question is answered");
+    printf("The same fare for %d random questions, %u of them answered, %u with several cards.\n", ASKED, found[0], with_several);
+    demand(found[0] > ASKED / 10 && with_several > ASKED / 20, "hardly a random question is answered");
+    demand(found[OFFERS_NO_CONDITIONS] > 0 && found[OFFERS_DAY_OUTSIDE] > 0, "no random question is without conditions, or none on that day");
 }
 
 /* ---- the times */

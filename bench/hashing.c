@@ -6,16 +6,22 @@
 
 enum { OFFER = 5, RAILWAY = 4, CODE = 3, KEY_AT = 4, CODE_AT = 13, LEAST_BITS = 4 };
 
-/* Open addressing. A name is never 0, so 0 marks an empty slot; `record` is the first that has the name. */
+/* Open addressing. A name is never 0, so 0 marks an empty slot; `record` is the last noted that has the name. */
 struct slot {
     uint64_t name;
     size_t record;
 };
 
-/* `first` has for each record the first with its key. */
+/* A record's body, and the last one before it with its key, itself if there is none. */
+struct chained {
+    const uint8_t *body;
+    size_t earlier;
+};
+
+/* `chain` has all records, those of one key chained from the last to the first. */
 struct names {
     struct slot *slots;
-    size_t *first;
+    struct chained *chain;
     unsigned bits;
 };
 
@@ -45,30 +51,31 @@ static struct slot *slot_of(const struct names *names, uint64_t name) {
 
 static int is_noted(const struct names *names, uint64_t name) { return slot_of(names, name)->name != 0; }
 
-/* The first record that has the name. */
+/* The record that was noted before under the name, this one if none was. */
 static size_t note(struct names *names, uint64_t name, size_t record) {
     struct slot *slot = slot_of(names, name);
-    if (slot->name == 0) *slot = (struct slot){name, record};
-    return slot->record;
+    size_t earlier = slot->name == 0 ? record : slot->record;
+    *slot = (struct slot){name, record};
+    return earlier;
 }
 
 /* A record has up to three names: at most three quarters of the slots are taken. */
 static struct names room_for(size_t records) {
-    struct names names = {NULL, malloc((records + 1) * sizeof *names.first), LEAST_BITS};
+    struct names names = {NULL, malloc((records + 1) * sizeof *names.chain), LEAST_BITS};
     while ((size_t)1 << names.bits < 4 * records) names.bits++;
     names.slots = calloc((size_t)1 << names.bits, sizeof *names.slots);
-    if (names.first == NULL || names.slots == NULL) abort();
+    if (names.chain == NULL || names.slots == NULL) abort();
     return names;
 }
 
-/* By its key; but for RE by its offer; AR by offer and railway too, which is the key of CO and ME. Returns the first record with its key. */
+/* By its key; but for RE by its offer; AR by offer and railway too, which is the key of CO and ME. Returns the last one before it with its key. */
 static size_t note_record(struct names *names, const struct plain_table *table, const uint8_t *record, size_t i) {
     const uint8_t *key = record + KEY_AT;
     if (table == &PLAIN_RE) return note(names, name_at(table, CODE, key), i);
     uint64_t offer = more_digits(0, key, OFFER), both = more_digits(offer, key + OFFER, RAILWAY);
     note(names, name_of(table, OFFER, offer), i);
-    size_t first = note(names, name_of(table, OFFER + RAILWAY, both), i);
-    if (table != &PLAIN_AR) return first;
+    size_t earlier = note(names, name_of(table, OFFER + RAILWAY, both), i);
+    if (table != &PLAIN_AR) return earlier;
     return note(names, name_of(table, OFFER + RAILWAY + CODE, more_digits(both, key + OFFER + RAILWAY, CODE)), i);
 }
 
@@ -77,7 +84,8 @@ static struct names names_of(const uint8_t *bundle, size_t length, size_t record
     size_t i = 0;
     for (size_t at = 0; at < length; i++) {
         const struct plain_table *table = plain_table_at(bundle + at, length - at);
-        names.first[i] = note_record(&names, table, bundle + at + PLAIN_MARK, i);
+        const uint8_t *body = bundle + at + PLAIN_MARK;
+        names.chain[i] = (struct chained){body, note_record(&names, table, body, i)};
         at += plain_step(table);
     }
     return names;
@@ -85,9 +93,14 @@ static struct names names_of(const uint8_t *bundle, size_t length, size_t record
 
 /* ---- both searches */
 
-static size_t same_key(const void *in, size_t i, const struct plain_table *table, const uint8_t *record) {
-    (void)table, (void)record;
-    return ((const struct names *)in)->first[i];
+static size_t clashing(const void *in, size_t i, const struct plain_table *table, const uint8_t *record) {
+    const struct chained *chain = ((const struct names *)in)->chain;
+    size_t first = i;
+    for (size_t j = i; chain[j].earlier != j;) {
+        j = chain[j].earlier;
+        if (plain_share_day(table, record, chain[j].body)) first = j;
+    }
+    return first;
 }
 
 /* A railway is served by its own record or by the one for all railways, all railways by any record of the offer. */
@@ -103,8 +116,8 @@ offers_judgement hashed_verdict(const uint8_t *bundle, size_t length) {
     offers_judgement alone = plain_check_records(bundle, length);
     if (alone.number != 0) return alone;
     struct names names = names_of(bundle, length, alone.records);
-    offers_judgement together = plain_check_together(bundle, length, (struct plain_searches){same_key, has}, &names);
+    offers_judgement together = plain_check_together(bundle, length, (struct plain_searches){clashing, has}, &names);
     free(names.slots);
-    free(names.first);
+    free(names.chain);
     return together;
 }

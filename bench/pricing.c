@@ -35,24 +35,29 @@ static bool gives_a_card_twice(const offers_question *q) {
 
 /* ---- the records of a leg */
 
-/* The offer's record for the railway or else for all railways, NULL if there is neither. `code` is not looked at if it is 0. */
-static const uint8_t *choose(const uint8_t *bundle, size_t length, const struct plain_table *wanted, long offer, long railway, long code) {
-    const uint8_t *general = NULL;
+/* The record that is valid that day, NULL if none is, and whether there are any. */
+struct choice {
+    const uint8_t *record;
+    bool has_any;
+};
+
+/* The offer's one for the railway, or else for all railways: of each key at most one is valid. `code` is not looked at if it is 0. */
+static struct choice choose(const uint8_t *bundle, size_t length, const struct plain_table *wanted, const offers_question *q, long railway,
+                            long code) {
+    struct choice general = {NULL, false};
     for (size_t at = 0; at < length;) {
         const struct plain_table *table = plain_table_at(bundle + at, length - at);
         const uint8_t *record = bundle + at + PLAIN_MARK;
         at += plain_step(table);
-        if (table != wanted || plain_number(record, 5, 5) != offer || (code != 0 && plain_number(record, 14, 3) != code)) continue;
-        long own = plain_number(record, 10, 4);
-        if (own == railway) return record;
-        if (own == 0 && general == NULL) general = record;
+        if (table != wanted || plain_number(record, 5, 5) != q->offer || (code != 0 && plain_number(record, 14, 3) != code)) continue;
+        long whose = plain_number(record, 10, 4);
+        if (whose != railway && whose != 0) continue;
+        general.has_any = true;
+        if (!plain_holds_day(table, record, q->day)) continue;
+        if (whose == railway) return (struct choice){record, true};
+        general.record = record;
     }
     return general;
-}
-
-static bool holds_day(const struct plain_table *table, const uint8_t *record, long day) {
-    size_t length = plain_step(table) - PLAIN_MARK;
-    return plain_number(record, length - 17, 8) <= day && day <= plain_number(record, length - 7, 8);
 }
 
 static bool persons_fit(const uint8_t *co, long persons) {
@@ -118,8 +123,8 @@ static uint64_t after_cards(const uint8_t *bundle, size_t length, const offers_q
     struct joined joined = {.count = 0};
     uint64_t least = UINT64_MAX;
     for (size_t k = 0; k < MOST_CARDS && q->cards[k] != 0; k++) {
-        const uint8_t *ar = choose(bundle, length, &PLAIN_AR, q->offer, railway, q->cards[k]);
-        if (ar == NULL || !holds_day(&PLAIN_AR, ar, q->day)) continue;
+        const uint8_t *ar = choose(bundle, length, &PLAIN_AR, q, railway, q->cards[k]).record;
+        if (ar == NULL) continue;
         if (ar[23 - 1] == 'Y') join(&joined, ar);
         else least = lesser(least, reduced_by_card(amount, ar));
     }
@@ -135,9 +140,10 @@ static offers_quote price(const uint8_t *bundle, size_t length, const offers_que
     offers_quote quote = {0};
     for (uint32_t k = 0; k < q->count; k++) {
         long railway = q->legs[k].railway;
-        const uint8_t *co = choose(bundle, length, &PLAIN_CO, q->offer, railway, 0);
-        if (co == NULL) return refused(OFFERS_NO_CONDITIONS, k, 0);
-        if (!holds_day(&PLAIN_CO, co, q->day)) return refused(OFFERS_DAY_OUTSIDE, k, 0);
+        struct choice choice = choose(bundle, length, &PLAIN_CO, q, railway, 0);
+        const uint8_t *co = choice.record;
+        if (!choice.has_any) return refused(OFFERS_NO_CONDITIONS, k, 0);
+        if (co == NULL) return refused(OFFERS_DAY_OUTSIDE, k, 0);
         if (!persons_fit(co, q->persons)) return refused(OFFERS_PERSONS_OUTSIDE, k, 0);
         uint64_t unread = unread_condition(co);
         if (unread != 0) return refused(OFFERS_CONDITION_UNREAD, k, unread);

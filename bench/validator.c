@@ -137,6 +137,20 @@ static bool keeps(const struct row *row, const uint8_t *record) {
     return false;
 }
 
+/* ---- periods of good records: a record ends with its first day, its version and its last day */
+
+static long first_day(const struct plain_table *table, const uint8_t *record) { return plain_number(record, table->length - 17, 8); }
+
+static long last_day(const struct plain_table *table, const uint8_t *record) { return plain_number(record, table->length - 7, 8); }
+
+int plain_holds_day(const struct plain_table *table, const uint8_t *record, long day) {
+    return is_between(day, first_day(table, record), last_day(table, record));
+}
+
+int plain_share_day(const struct plain_table *table, const uint8_t *record, const uint8_t *other) {
+    return first_day(table, record) <= last_day(table, other) && first_day(table, other) <= last_day(table, record);
+}
+
 /* ---- the records, each by itself */
 
 static offers_judgement refused(uint64_t number, uint64_t place, uint64_t detail) { return (offers_judgement){number, place, detail, 0}; }
@@ -178,7 +192,7 @@ offers_judgement plain_check_together(const uint8_t *bundle, size_t length, stru
         const struct plain_table *table = plain_table_at(bundle + at, length - at);
         const uint8_t *record = bundle + at + PLAIN_MARK;
         if (memcmp(record, bundle + PLAIN_MARK, 4) != 0) return refused(OFFERS_OTHER_TRANSFEROR, i, 0);
-        size_t j = by.same_key(in, i, table, record);
+        size_t j = by.clashing(in, i, table, record);
         if (j < i) return refused(OFFERS_KEY_REPEATED, i, j);
         uint64_t detail = missing_link(by, in, table, record);
         if (detail != 0) return refused(OFFERS_LINK_MISSING, i, detail);
@@ -194,12 +208,16 @@ struct lent {
     size_t length;
 };
 
-static size_t same_key(const void *in, size_t i, const struct plain_table *table, const uint8_t *record) {
+static bool clash(const struct plain_table *table, const uint8_t *record, const uint8_t *other) {
+    return memcmp(other + 4, record + 4, table->key_length) == 0 && plain_share_day(table, record, other);
+}
+
+static size_t clashing(const void *in, size_t i, const struct plain_table *table, const uint8_t *record) {
     const struct lent *lent = in;
     size_t at = 0;
     for (size_t j = 0; j < i; j++) {
         const struct plain_table *other = plain_table_at(lent->bundle + at, lent->length - at);
-        if (other == table && memcmp(lent->bundle + at + PLAIN_MARK + 4, record + 4, table->key_length) == 0) return j;
+        if (other == table && clash(table, record, lent->bundle + at + PLAIN_MARK)) return j;
         at += plain_step(other);
     }
     return i;
@@ -236,5 +254,5 @@ offers_judgement plain_verdict(const uint8_t *bundle, size_t length) {
     offers_judgement alone = plain_check_records(bundle, length);
     if (alone.number != 0) return alone;
     struct lent lent = {bundle, length};
-    return plain_check_together(bundle, length, (struct plain_searches){same_key, has}, &lent);
+    return plain_check_together(bundle, length, (struct plain_searches){clashing, has}, &lent);
 }

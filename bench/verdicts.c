@@ -7,17 +7,25 @@
 #include <stdlib.h>
 #include <string.h>
 
-enum { DAMAGED_EACH = 50, DAMAGED = 3 * TIMED_RECIPES * DAMAGED_EACH };
+enum { ROUNDS = 6, DAMAGED_EACH = 50, DAMAGED = ROUNDS * TIMED_RECIPES * DAMAGED_EACH };
 
 static struct bundle bundle, broken;
 
 /* ---- the same answers */
 
-/* Of each recipe small ones as they are made, small ones in an order by chance and larger ones in such an order. */
+/* Of each recipe small ones as they are made, small ones in an order by chance and larger ones in such an order; then with a summer and a winter
+ * record a key small ones in both other orders, and with eight records a key larger ones in an order by chance. */
 static void make_one_to_damage(unsigned k) {
-    unsigned round = k / TIMED_RECIPES;
-    make_bundle(&bundle, *TIMED[k % TIMED_RECIPES], round < 2 ? 6000 + chance(6000) : 100000 + chance(60000));
-    if (round > 0) shuffle(&bundle);
+    struct recipe recipe = *TIMED[k % TIMED_RECIPES];
+    size_t small = 6000 + chance(6000), large = 100000 + chance(60000);
+    switch (k / TIMED_RECIPES) {
+    case 0: make_bundle(&bundle, recipe, small); break;
+    case 1: make_bundle(&bundle, recipe, small); shuffle(&bundle); break;
+    case 2: make_bundle(&bundle, recipe, large); shuffle(&bundle); break;
+    case 3: make_seasonal(&bundle, recipe, 2 * small, 2, BY_KEY); break;
+    case 4: make_seasonal(&bundle, recipe, 2 * small, 2, BY_SEASON); break;
+    case 5: make_seasonal(&bundle, recipe, large, 8, BY_CHANCE); break;
+    }
 }
 
 static void compare_on_damaged(void) {
