@@ -22,10 +22,10 @@ extern "C" {
 #endif
 
 /* The version of the engine. The first number rises where a program that was written before has to be changed. */
-#define OFFERS_VERSION "2.0.1"
+#define OFFERS_VERSION "2.1.0"
 #define OFFERS_VERSION_MAJOR 2
-#define OFFERS_VERSION_MINOR 0
-#define OFFERS_VERSION_PATCH 1
+#define OFFERS_VERSION_MINOR 1
+#define OFFERS_VERSION_PATCH 0
 
 /* The numbers of refusals: when; place, detail (0 where nothing is said). A call tells the first that it comes to. */
 /* numbers: begin */
@@ -36,12 +36,13 @@ enum offers_number {
     OFFERS_RECORD_SHORT = 3,      /* the last record is shorter than its length; record */
     OFFERS_FIELD_BROKEN = 4,      /* a field breaks its rule; record, field */
     OFFERS_OTHER_TRANSFEROR = 5,  /* a record has another transferor than the first one; record */
-    OFFERS_KEY_REPEATED = 6,      /* a record repeats the key of an earlier one; later record, earlier record */
+    OFFERS_KEY_REPEATED = 6,      /* a record has the key of an earlier one, and their periods overlap; later record,
+                                     earlier record */
     OFFERS_LINK_MISSING = 7,      /* a record needs another one that is not in the bundle; record, 1 no RE, 2 no CO,
                                      3 no AR, 4 no ME */
     OFFERS_QUESTION_LIMITS = 11,  /* the question, or the railway of a balance, is outside its limits */
     OFFERS_NO_CONDITIONS = 12,    /* the offer has no conditions for the railway of a leg; leg */
-    OFFERS_DAY_OUTSIDE = 13,      /* the day is outside the period of a leg's conditions; leg */
+    OFFERS_DAY_OUTSIDE = 13,      /* none of the conditions for a leg is valid on the day; leg */
     OFFERS_PERSONS_OUTSIDE = 14,  /* the persons are fewer or more than a leg's conditions allow; leg */
     OFFERS_CONDITION_UNREAD = 15, /* a leg's conditions have one that the engine does not read; leg, field */
     /* 16 was OFFERS_FARE_TOO_HIGH; neither is used again */
@@ -62,11 +63,11 @@ static inline const char *offers_text(uint64_t number) {
     case OFFERS_RECORD_SHORT: return "the last record is shorter than its length";
     case OFFERS_FIELD_BROKEN: return "a field breaks its rule";
     case OFFERS_OTHER_TRANSFEROR: return "a record has another transferor than the first one";
-    case OFFERS_KEY_REPEATED: return "a record repeats the key of an earlier one";
+    case OFFERS_KEY_REPEATED: return "a record has the key of an earlier one, and their periods overlap";
     case OFFERS_LINK_MISSING: return "a record needs another one that is not in the bundle";
     case OFFERS_QUESTION_LIMITS: return "the question, or the railway of a balance, is outside its limits";
     case OFFERS_NO_CONDITIONS: return "the offer has no conditions for the railway of a leg";
-    case OFFERS_DAY_OUTSIDE: return "the day is outside the period of a leg's conditions";
+    case OFFERS_DAY_OUTSIDE: return "none of the conditions for a leg is valid on the day";
     case OFFERS_PERSONS_OUTSIDE: return "the persons are fewer or more than a leg's conditions allow";
     case OFFERS_CONDITION_UNREAD: return "a leg's conditions have one that the engine does not read";
     case OFFERS_CARD_TWICE: return "the question gives a card twice";

@@ -52,11 +52,11 @@ reasons! {
     3 RecordShort "the last record is shorter than its length"
     4 FieldBroken "a field breaks its rule"
     5 OtherTransferor "a record has another transferor than the first one"
-    6 KeyRepeated "a record repeats the key of an earlier one"
+    6 KeyRepeated "a record has the key of an earlier one, and their periods overlap"
     7 LinkMissing "a record needs another one that is not in the bundle"
     11 OutsideLimits "the question, or the railway of a balance, is outside its limits"
     12 NoConditions "the offer has no conditions for the railway of a leg"
-    13 DayOutside "the day is outside the period of a leg's conditions"
+    13 DayOutside "none of the conditions for a leg is valid on the day"
     14 PersonsOutside "the persons are fewer or more than a leg's conditions allow"
     15 ConditionUnread "a leg's conditions have one that the engine does not read"
     // 16 was FareTooHigh; neither is used again
