@@ -30,6 +30,7 @@ echo "rt: $2 proved (2 s)"
 touch "target/stamp/$2"
 """
 LOADER = '#!/bin/sh\nshift 2\nexec "$@"\n'
+EMULATOR = '#!/bin/sh\nexec "$@"\n'
 PROGRAM = '#!/bin/sh\necho "OK $(wc -c)"\n'
 
 
@@ -65,7 +66,10 @@ class Checkout:
         self.input = path / "input"
         self.input.write_text("four")
         executable(self.kit / "bin" / "rt", RT)
-        executable(self.kit / "on" / platform.machine() / "toolchain" / "lib" / "ld-linux-x86-64.so.2", LOADER)
+        toolchain = self.kit / "on" / platform.machine() / "toolchain"
+        executable(toolchain / "lib" / "ld-linux-x86-64.so.2", LOADER)
+        # asked for where the processor is another than that of the code
+        executable(toolchain / "bin" / "qemu-x86_64", EMULATOR)
         executable(self.kit / "program", PROGRAM)
         self.program = self.root / "target" / "bin" / "verdict"
         self.env = dict(os.environ, PATH=f"{self.kit / 'bin'}:{os.environ['PATH']}")
