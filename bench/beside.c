@@ -1,43 +1,40 @@
 /* The engine beside another build of it, called in turn: beside [RUNS]. The other's calls begin with other_. */
 #include "measure.h"
 #include "peers.h"
-#include "ticket.h"
 
 #include <stdlib.h>
 #include <string.h>
 
-/* The number of the fare of the ticket, and its parts. */
-typedef uint64_t price(const uint8_t *bundle, size_t length, uint32_t parts[8]);
+typedef offers_quote fare(const uint8_t *bundle, size_t length, offers_question question);
 typedef offers_sum total(const uint32_t *book, size_t words);
 verdict other_offers_verdict;
-price other_price;
+fare other_offers_fare;
 total other_offers_total;
-
-static uint64_t this_price(const uint8_t *bundle, size_t length, uint32_t parts[8]) {
-    offers_quote quote = offers_fare(bundle, length, TICKET);
-    memcpy(parts, quote.parts, sizeof quote.parts);
-    return quote.number;
-}
 
 struct build {
     verdict *verdict;
-    price *price;
+    fare *fare;
     total *total;
 };
 
 enum { FULL = 255, TILL = 7 };
 
-static struct build this_build = {offers_verdict, this_price, offers_total};
-static struct build other_build = {other_offers_verdict, other_price, other_offers_total};
+static struct build this_build = {offers_verdict, offers_fare, offers_total};
+static struct build other_build = {other_offers_verdict, other_offers_fare, other_offers_total};
 static struct bundle bundle;
 static uint32_t book[OFFERS_BOOK_WORDS];
+static const offers_question TICKET = {
+    .offer = 1,
+    .day = BUNDLE_DAY,
+    .persons = 2,
+    .cards = {1},
+    .count = 4,
+    .legs = {{1, 1010}, {2, 1010}, {3, 1010}, {4, 1010}},
+};
 
 static void judge(void *with) { ((struct build *)with)->verdict(bundle.bytes, bundle.length); }
 
-static void ask_fare(void *with) {
-    uint32_t parts[8];
-    ((struct build *)with)->price(bundle.bytes, bundle.length, parts);
-}
+static void price(void *with) { ((struct build *)with)->fare(bundle.bytes, bundle.length, TICKET); }
 
 static void add_up(void *with) { ((struct build *)with)->total(book, OFFERS_BOOK_WORDS); }
 
@@ -49,9 +46,8 @@ static void demand_same_verdict(void) {
 }
 
 static void demand_same_fare(void) {
-    uint32_t here[8], there[8];
-    demand(this_price(bundle.bytes, bundle.length, here) == 0 && other_price(bundle.bytes, bundle.length, there) == 0, "a fare is refused");
-    demand(memcmp(here, there, sizeof here) == 0, "the fares differ");
+    offers_quote here = offers_fare(bundle.bytes, bundle.length, TICKET), there = other_offers_fare(bundle.bytes, bundle.length, TICKET);
+    demand(here.number == 0 && there.number == 0 && memcmp(here.parts, there.parts, sizeof here.parts) == 0, "the fares differ");
 }
 
 static void demand_same_total(void) {
@@ -95,7 +91,7 @@ int main(int argc, char **argv) {
     fill_book();
     tell_heading("A fare, and a call that reads a book");
     demand_same_fare();
-    compare(runs, "4 legs, card, 3 KiB", ask_fare);
+    compare(runs, "4 legs, card, 3 KiB", price);
     demand_same_total();
     compare(runs, "total, 255 entries", add_up);
     return 0;

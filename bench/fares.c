@@ -1,7 +1,6 @@
 /* A fare beside plain C of the same rules and beside the verdict that stands in it: fares [RUNS]. */
 #include "bundles.h"
 #include "measure.h"
-#include "stations.h"
 #include "validator.h"
 
 #include <stdio.h>
@@ -19,7 +18,7 @@ static const size_t SMALL = 2715, SMALL_OF_FOUR = 4806, LARGE = 64 * KIB;
 static offers_question question_of(unsigned offer, uint32_t legs, uint32_t cards) {
     offers_question q = {.offer = offer, .day = BUNDLE_DAY, .persons = 2, .count = legs};
     for (uint32_t k = 0; k < cards; k++) q.cards[k] = cards - k;
-    for (uint32_t k = 0; k < legs; k++) q.legs[k] = leg_at(k, 1 + k, 1010 + 100 * k);
+    for (uint32_t k = 0; k < legs; k++) q.legs[k] = (offers_leg){1 + k, 1010 + 100 * k};
     return q;
 }
 
@@ -44,26 +43,10 @@ static uint32_t random_day(void) {
     return chance(2) ? BUNDLE_DAY : DAYS[chance(sizeof DAYS / sizeof *DAYS)];
 }
 
-static offers_leg random_leg(void) {
-    return (offers_leg){
-        .railway = 1 + chance(6),
-        .fare = chance(chance(2) ? 1000000 : 1000),
-        .from = station_of(chance(100000)),
-        .to = station_of(chance(100000)),
-    };
-}
-
-/* Any number in the place of a station, now and then one that is too large. */
-static void mistype_station(offers_question *q) {
-    offers_leg *leg = &q->legs[chance(q->count)];
-    *(chance(2) ? &leg->from : &leg->to) = chance(1100000);
-}
-
 static offers_question random_question(void) {
     offers_question q = {.offer = 1 + chance(4), .day = random_day(), .persons = chance(8), .count = 1 + chance(8)};
     draw_question_cards(&q);
-    for (uint32_t k = 0; k < q.count; k++) q.legs[k] = random_leg();
-    for (unsigned mistakes = chance(8) == 0 ? 1 + chance(3) : 0; mistakes > 0; mistakes--) mistype_station(&q);
+    for (uint32_t k = 0; k < q.count; k++) q.legs[k] = (offers_leg){1 + chance(6), chance(chance(2) ? 1000000 : 1000)};
     return q;
 }
 
@@ -89,7 +72,7 @@ static void make_random_seasonal(struct bundle *b, unsigned k) {
 }
 
 static void compare_on_random(void) {
-    unsigned found[OFFERS_CHECK_DIGIT_WRONG + 1] = {0}, with_several = 0;
+    unsigned found[OFFERS_CARD_TWICE + 1] = {0}, with_several = 0;
     for (unsigned k = 0; k < ASKED; k++) {
         if (k < ASKED / 2) make_random_bundle(&broken, k);
         else make_random_seasonal(&broken, k);
@@ -101,7 +84,6 @@ static void compare_on_random(void) {
     printf("The same fare for %d random questions, %u of them answered, %u with several cards.\n", ASKED, found[0], with_several);
     demand(found[0] > ASKED / 10 && with_several > ASKED / 20, "hardly a random question is answered");
     demand(found[OFFERS_NO_CONDITIONS] > 0 && found[OFFERS_DAY_OUTSIDE] > 0, "no random question is without conditions, or none on that day");
-    demand(found[OFFERS_CHECK_DIGIT_WRONG] > 0, "no random question has a mistyped station");
 }
 
 /* ---- the times */

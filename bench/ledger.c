@@ -9,23 +9,20 @@ static const char SCHEMA[] =
     "CREATE TABLE sales (id INTEGER PRIMARY KEY, till INTEGER NOT NULL, sequence INTEGER NOT NULL, offer INTEGER NOT NULL, day INTEGER NOT NULL,"
     " persons INTEGER NOT NULL, card_1 INTEGER NOT NULL, card_2 INTEGER NOT NULL, card_3 INTEGER NOT NULL, card_4 INTEGER NOT NULL,"
     " cancelled INTEGER NOT NULL DEFAULT 0, UNIQUE (till, sequence));"
-    "CREATE TABLE parts (sale INTEGER NOT NULL, leg INTEGER NOT NULL, railway INTEGER NOT NULL, fare INTEGER NOT NULL,"
-    " station_from INTEGER NOT NULL, station_to INTEGER NOT NULL, amount INTEGER NOT NULL, PRIMARY KEY (sale, leg)) WITHOUT ROWID;"
+    "CREATE TABLE parts (sale INTEGER NOT NULL, leg INTEGER NOT NULL, railway INTEGER NOT NULL, fare INTEGER NOT NULL, amount INTEGER NOT NULL,"
+    " PRIMARY KEY (sale, leg)) WITHOUT ROWID;"
     "CREATE INDEX parts_by_railway ON parts (railway, sale, amount);";
 
-enum statement {
-    BEGIN, COMMIT, ADD_SALE, ADD_PART, FIND_SALE, FIND_PARTS, FIND_LEGS, CANCEL, BALANCE, TOTAL, FORGET_PARTS, FORGET_SALE, REVIVE, STATEMENTS
-};
+enum statement { BEGIN, COMMIT, ADD_SALE, ADD_PART, FIND_SALE, FIND_PARTS, CANCEL, BALANCE, TOTAL, FORGET_PARTS, FORGET_SALE, REVIVE, STATEMENTS };
 
 static const char *const TEXTS[STATEMENTS] = {
     [BEGIN] = "BEGIN",
     [COMMIT] = "COMMIT",
     [ADD_SALE] = ("INSERT OR IGNORE INTO sales (till, sequence, offer, day, persons, card_1, card_2, card_3, card_4)"
                   " VALUES (?, ?, ?, ?, ?, ?, ?, ?, ?)"),
-    [ADD_PART] = "INSERT INTO parts (sale, leg, railway, fare, station_from, station_to, amount) VALUES (?, ?, ?, ?, ?, ?, ?)",
+    [ADD_PART] = "INSERT INTO parts (sale, leg, railway, fare, amount) VALUES (?, ?, ?, ?, ?)",
     [FIND_SALE] = "SELECT id, cancelled FROM sales WHERE till = ? AND sequence = ?",
     [FIND_PARTS] = "SELECT leg, amount FROM parts WHERE sale = ?",
-    [FIND_LEGS] = "SELECT leg, railway, fare, station_from, station_to FROM parts WHERE sale = ?",
     [CANCEL] = "UPDATE sales SET cancelled = 1 WHERE id = ?",
     [BALANCE] = "SELECT sum(amount) FROM parts JOIN sales ON sales.id = parts.sale WHERE railway = ? AND NOT cancelled",
     [TOTAL] = "SELECT sum(amount) FROM parts JOIN sales ON sales.id = parts.sale WHERE NOT cancelled",
@@ -97,8 +94,7 @@ static void find_parts(struct ledger *l, int64_t sale, uint32_t parts[8]) {
 static void add_parts(struct ledger *l, const offers_question *q, const uint32_t parts[8], offers_receipt *receipt) {
     int64_t sale = sqlite3_last_insert_rowid(l->base);
     for (uint32_t k = 0; k < q->count; k++) {
-        const offers_leg *leg = &q->legs[k];
-        run(l, ADD_PART, 7, (int64_t[]){sale, k, leg->railway, leg->fare, leg->from, leg->to, parts[k]});
+        run(l, ADD_PART, 5, (int64_t[]){sale, k, q->legs[k].railway, q->legs[k].fare, parts[k]});
         receipt->parts[k] = parts[k];
     }
 }
@@ -130,17 +126,6 @@ offers_receipt ledger_cancel(struct ledger *l, uint32_t till, uint64_t sequence)
     }
     run(l, COMMIT, 0, NULL);
     return receipt;
-}
-
-static uint32_t column(sqlite3_stmt *asked, int k) { return (uint32_t)sqlite3_column_int64(asked, k); }
-
-void ledger_legs(struct ledger *l, uint32_t till, uint64_t sequence, offers_leg legs[8]) {
-    uint32_t cancelled;
-    int64_t sale = find_sale(l, till, sequence, &cancelled);
-    sqlite3_stmt *asked = bound(l, FIND_LEGS, 1, &sale);
-    while (sqlite3_step(asked) == SQLITE_ROW)
-        legs[column(asked, 0)] = (offers_leg){column(asked, 1), column(asked, 2), column(asked, 3), column(asked, 4)};
-    sqlite3_reset(asked);
 }
 
 uint64_t ledger_balance(struct ledger *l, uint32_t railway) { return sum(l, BALANCE, 1, (int64_t[]){railway}); }

@@ -15,9 +15,6 @@ offers_receipt ledger_cancel(struct ledger *l, uint32_t till, uint64_t sequence)
 uint64_t ledger_balance(struct ledger *l, uint32_t railway);
 uint64_t ledger_total(struct ledger *l);
 
-/* What was asked of each leg of a sale; the legs that it has not are left as they are. */
-void ledger_legs(struct ledger *l, uint32_t till, uint64_t sequence, offers_leg legs[8]);
-
 /* What no till does: a sale taken out, or made live again, so that it can be timed once more. */
 void ledger_forget(struct ledger *l, uint32_t till, uint64_t sequence);
 void ledger_revive(struct ledger *l, uint32_t till, uint64_t sequence);

@@ -1,5 +1,4 @@
-/* The fare, plainly in C: verdict, limits, cards, stations, and then the legs from the first. */
-#include "stations.h"
+/* The fare, plainly in C: verdict, limits, and then the legs from the first. */
 #include "validator.h"
 
 #include <stdbool.h>
@@ -9,13 +8,9 @@ enum { CENT = 100000, MOST_LEGS = 8, MOST_CARDS = 4 };
 
 /* ---- the question */
 
-static bool leg_in_limits(const offers_leg *leg) {
-    return leg->railway >= 1 && leg->railway <= 9999 && leg->fare <= 999999 && leg->from <= 999999 && leg->to <= 999999;
-}
-
 static bool legs_in_limits(const offers_question *q) {
     for (uint32_t k = 0; k < q->count; k++)
-        if (!leg_in_limits(&q->legs[k])) return false;
+        if (q->legs[k].railway < 1 || q->legs[k].railway > 9999 || q->legs[k].fare > 999999) return false;
     return true;
 }
 
@@ -36,15 +31,6 @@ static bool gives_a_card_twice(const offers_question *q) {
         for (size_t j = 0; j < k; j++)
             if (q->cards[j] == q->cards[k]) return true;
     return false;
-}
-
-static bool is_mistyped(uint32_t station) { return station % 10 != check_digit_of(station / 10); }
-
-/* The stations count from 0, two a leg; as many as there are if none is mistyped. */
-static uint32_t first_mistyped(const offers_question *q) {
-    uint32_t k = 0;
-    while (k < 2 * q->count && !is_mistyped(k % 2 == 0 ? q->legs[k / 2].from : q->legs[k / 2].to)) k++;
-    return k;
 }
 
 /* ---- the records of a leg */
@@ -173,7 +159,5 @@ offers_quote plain_fare(const uint8_t *bundle, size_t length, offers_question qu
     if (judgement.number != 0) return refused(judgement.number, judgement.place, judgement.detail);
     if (!in_limits(&question)) return refused(OFFERS_QUESTION_LIMITS, 0, 0);
     if (gives_a_card_twice(&question)) return refused(OFFERS_CARD_TWICE, 0, 0);
-    uint32_t mistyped = first_mistyped(&question);
-    if (mistyped < 2 * question.count) return refused(OFFERS_CHECK_DIGIT_WRONG, mistyped / 2, mistyped % 2);
     return price(bundle, length, &question);
 }

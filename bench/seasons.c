@@ -2,7 +2,6 @@
  * the engine; then a fare from such bundles: seasons [RUNS]. */
 #include "measure.h"
 #include "peers.h"
-#include "stations.h"
 
 #include <stdio.h>
 #include <stdlib.h>
@@ -68,7 +67,7 @@ static double time_of_fare(int runs, struct asked *a) { return time_of(runs, cal
 
 static offers_question winter_question(unsigned offer) {
     offers_question q = {.offer = offer, .day = WINTER_DAY, .persons = 2, .cards = {1}, .count = LEGS};
-    for (uint32_t k = 0; k < LEGS; k++) q.legs[k] = leg_at(k, 1 + k, 1010 + 100 * k);
+    for (uint32_t k = 0; k < LEGS; k++) q.legs[k] = (offers_leg){1 + k, 1010 + 100 * k};
     return q;
 }
 

@@ -3,7 +3,6 @@
 #include "../include/offers.h"
 #include "bundles.h"
 #include "measure.h"
-#include "stations.h"
 
 #include <stdio.h>
 #include <ucontext.h>
@@ -21,7 +20,7 @@ static uint64_t number, sequence;
 
 static offers_question question(void) {
     offers_question q = {.offer = 1, .day = BUNDLE_DAY, .persons = 2, .cards = {1, 2, 3, 4}, .count = 8};
-    for (uint32_t k = 0; k < q.count; k++) q.legs[k] = leg_at(k, 1 + k, 1010);
+    for (uint32_t k = 0; k < q.count; k++) q.legs[k] = (offers_leg){1 + k, 1010};
     return q;
 }
 

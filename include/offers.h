@@ -22,37 +22,36 @@ extern "C" {
 #endif
 
 /* The version of the engine. The first number rises where a program that was written before has to be changed. */
-#define OFFERS_VERSION "3.0.0"
-#define OFFERS_VERSION_MAJOR 3
-#define OFFERS_VERSION_MINOR 0
+#define OFFERS_VERSION "2.1.0"
+#define OFFERS_VERSION_MAJOR 2
+#define OFFERS_VERSION_MINOR 1
 #define OFFERS_VERSION_PATCH 0
 
 /* The numbers of refusals: when; place, detail (0 where nothing is said). A call tells the first that it comes to. */
 /* numbers: begin */
 enum offers_number {
     OFFERS_ANSWERED = 0,
-    OFFERS_BUNDLE_TOO_LONG = 1,    /* the bundle has more than 1,048,576 bytes */
-    OFFERS_MARK_UNKNOWN = 2,       /* a mark is unknown, or one byte is left; record */
-    OFFERS_RECORD_SHORT = 3,       /* the last record is shorter than its length; record */
-    OFFERS_FIELD_BROKEN = 4,       /* a field breaks its rule; record, field */
-    OFFERS_OTHER_TRANSFEROR = 5,   /* a record has another transferor than the first one; record */
-    OFFERS_KEY_REPEATED = 6,       /* a record has the key of an earlier one, and their periods overlap; later
-                                      record, earlier record */
-    OFFERS_LINK_MISSING = 7,       /* a record needs another one that is not in the bundle; record, 1 no RE, 2 no CO,
-                                      3 no AR, 4 no ME */
-    OFFERS_QUESTION_LIMITS = 11,   /* the question, or the railway of a balance, is outside its limits */
-    OFFERS_NO_CONDITIONS = 12,     /* the offer has no conditions for the railway of a leg; leg */
-    OFFERS_DAY_OUTSIDE = 13,       /* none of the conditions for a leg is valid on the day; leg */
-    OFFERS_PERSONS_OUTSIDE = 14,   /* the persons are fewer or more than a leg's conditions allow; leg */
-    OFFERS_CONDITION_UNREAD = 15,  /* a leg's conditions have one that the engine does not read; leg, field */
+    OFFERS_BUNDLE_TOO_LONG = 1,   /* the bundle has more than 1,048,576 bytes */
+    OFFERS_MARK_UNKNOWN = 2,      /* a mark is unknown, or one byte is left; record */
+    OFFERS_RECORD_SHORT = 3,      /* the last record is shorter than its length; record */
+    OFFERS_FIELD_BROKEN = 4,      /* a field breaks its rule; record, field */
+    OFFERS_OTHER_TRANSFEROR = 5,  /* a record has another transferor than the first one; record */
+    OFFERS_KEY_REPEATED = 6,      /* a record has the key of an earlier one, and their periods overlap; later record,
+                                     earlier record */
+    OFFERS_LINK_MISSING = 7,      /* a record needs another one that is not in the bundle; record, 1 no RE, 2 no CO,
+                                     3 no AR, 4 no ME */
+    OFFERS_QUESTION_LIMITS = 11,  /* the question, or the railway of a balance, is outside its limits */
+    OFFERS_NO_CONDITIONS = 12,    /* the offer has no conditions for the railway of a leg; leg */
+    OFFERS_DAY_OUTSIDE = 13,      /* none of the conditions for a leg is valid on the day; leg */
+    OFFERS_PERSONS_OUTSIDE = 14,  /* the persons are fewer or more than a leg's conditions allow; leg */
+    OFFERS_CONDITION_UNREAD = 15, /* a leg's conditions have one that the engine does not read; leg, field */
     /* 16 was OFFERS_FARE_TOO_HIGH; neither is used again */
-    OFFERS_CARD_TWICE = 17,        /* the question gives a card twice */
-    OFFERS_CHECK_DIGIT_WRONG = 20, /* the check digit of a station is wrong; leg, 0 from, 1 to */
-    OFFERS_BOOK_UNSOUND = 21,      /* the book is not sound */
-    OFFERS_NUMBER_LIMITS = 22,     /* the till or the sequence is 0 or too large */
-    OFFERS_NUMBER_TAKEN = 23,      /* the sale number is held by another question; entry */
-    OFFERS_BOOK_FULL = 24,         /* the book has 256 sales, and the sale number is new */
-    OFFERS_SALE_UNKNOWN = 25       /* the sale is not in this book */
+    OFFERS_CARD_TWICE = 17,       /* the question gives a card twice */
+    OFFERS_BOOK_UNSOUND = 21,     /* the book is not sound */
+    OFFERS_NUMBER_LIMITS = 22,    /* the till or the sequence is 0 or too large */
+    OFFERS_NUMBER_TAKEN = 23,     /* the sale number is held by another question; entry */
+    OFFERS_BOOK_FULL = 24,        /* the book has 256 sales, and the sale number is new */
+    OFFERS_SALE_UNKNOWN = 25      /* the sale is not in this book */
 };
 
 /* What a number means, in words. */
@@ -72,7 +71,6 @@ static inline const char *offers_text(uint64_t number) {
     case OFFERS_PERSONS_OUTSIDE: return "the persons are fewer or more than a leg's conditions allow";
     case OFFERS_CONDITION_UNREAD: return "a leg's conditions have one that the engine does not read";
     case OFFERS_CARD_TWICE: return "the question gives a card twice";
-    case OFFERS_CHECK_DIGIT_WRONG: return "the check digit of a station is wrong";
     case OFFERS_BOOK_UNSOUND: return "the book is not sound";
     case OFFERS_NUMBER_LIMITS: return "the till or the sequence is 0 or too large";
     case OFFERS_NUMBER_TAKEN: return "the sale number is held by another question";
@@ -123,17 +121,12 @@ enum offers_status {
 #define OFFERS_LARGEST_RAILWAY 9999
 #define OFFERS_LARGEST_CARD 999
 #define OFFERS_LARGEST_PLAIN_FARE 999999
-#define OFFERS_LARGEST_STATION 999999
 #define OFFERS_LARGEST_TILL 65535
 #define OFFERS_LARGEST_SEQUENCE 4294967295u
 
-/* A station is one number, 0 to 999,999, as it is typed: the five digits of its location number, then its check digit.
- * 123455 is location 12345 with check digit 5. 0 stands where no station is given, and its check digit is right. */
 typedef struct {
     uint32_t railway; /* 1 to 9999 */
     uint32_t fare;    /* plain fare per person in cents, 0 to 999,999 */
-    uint32_t from;    /* the station where the leg begins */
-    uint32_t to;      /* the station where it ends; it may be the same */
 } offers_leg;
 
 typedef struct {
@@ -186,7 +179,7 @@ typedef struct {
 /* Judges a bundle, of any length: 1 to 7, or the count of its records. */
 offers_judgement offers_verdict(const uint8_t *bundle, size_t length);
 
-/* Prices a ticket: 1 to 7, 11, 17, 20 for all legs, then the legs from the first, each for 12 to 15. */
+/* Prices a ticket: 1 to 7, 11, 17, then the legs from the first, each for 12 to 15. */
 offers_quote offers_fare(const uint8_t *bundle, size_t length, offers_question question);
 
 /* Books a sale under its number, till and sequence: 21, 22, 23, 24, then as offers_fare. The same question under a

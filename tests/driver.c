@@ -27,7 +27,7 @@ struct request {
     uint32_t call, till, railway, book_kept;
     offers_question question;
 };
-_Static_assert(sizeof(struct request) == 6 * 8 + (4 + 40) * 4, "a request has no padding");
+_Static_assert(sizeof(struct request) == 6 * 8 + (4 + 24) * 4, "a request has no padding");
 _Static_assert(sizeof(size_t) == 8, "an entry is asked for as it is sent");
 
 /* Every value of every answer: what a call does not tell is 0. */
@@ -37,9 +37,9 @@ struct answer {
     offers_question question;
     uint32_t parts[8];
 };
-_Static_assert(sizeof(struct answer) == 6 * 8 + (4 + 40 + 8) * 4, "an answer has no padding");
+_Static_assert(sizeof(struct answer) == 6 * 8 + (4 + 24 + 8) * 4, "an answer has no padding");
 _Static_assert(sizeof(offers_tally) == 4 * 8, "a tally has no value but those told");
-_Static_assert(sizeof(offers_booking) == 5 * 8 + (2 + 40 + 8) * 4, "a booking has no value but those told");
+_Static_assert(sizeof(offers_booking) == 5 * 8 + (2 + 24 + 8) * 4, "a booking has no value but those told");
 
 /* After it come `changes` pairs of a word's place in the book and its new value. */
 struct reply {

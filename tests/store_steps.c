@@ -39,8 +39,8 @@ static void sell(const char *path, const char *bundle_path, uint64_t sequence) {
     int loaded = store_load(path, book);
     if (loaded != STORE_NO_FILE) stop_unless_done(loaded);
     offers_question ticket = {.offer = 42, .day = 20240615, .persons = 3, .cards = {7}, .count = 2};
-    ticket.legs[0] = (offers_leg){.railway = 1185, .fare = 1010, .from = 123455, .to = 234567};
-    ticket.legs[1] = (offers_leg){.railway = 1181, .fare = 500, .from = 234567, .to = 345678};
+    ticket.legs[0] = (offers_leg){.railway = 1185, .fare = 1010};
+    ticket.legs[1] = (offers_leg){.railway = 1181, .fare = 500};
     offers_receipt told = offers_sale(book, OFFERS_BOOK_WORDS, bundle, length, 1, sequence, ticket);
     if (told.number != OFFERS_ANSWERED) {
         printf("refused by %" PRIu64 "\n", told.number);

@@ -1,6 +1,6 @@
 //! What tests/stored asks of this crate, in a program of its own; `tests/store_steps.c` is the same over
 //! `examples/store.c`, and says what its commands are for.
-use offers::{Book, Leg, Question, SaleNumber, Station, StoredError, Ticket, STORED_BYTES};
+use offers::{Book, Leg, Question, SaleNumber, StoredError, Ticket, STORED_BYTES};
 use std::error::Error;
 use std::{env, fs, process};
 
@@ -9,11 +9,7 @@ fn sell(path: &str, bundle: &str, sequence: &str) -> Result<(), Box<dyn Error>> 
         Err(error) if error.is_not_found() => Book::new(),
         loaded => loaded?,
     };
-    let [start, change, end] = [Station::new(12345, 5)?, Station::new(23456, 7)?, Station::new(34567, 8)?];
-    let legs = [
-        Leg { railway: 1185, fare: 1010, from: start, to: change },
-        Leg { railway: 1181, fare: 500, from: change, to: end },
-    ];
+    let legs = [Leg { railway: 1185, fare: 1010 }, Leg { railway: 1181, fare: 500 }];
     let question = Question::new(&Ticket { offer: 42, day: 20_240_615, persons: 3, cards: &[7], legs: &legs })?;
     book.sale(&fs::read(bundle)?, SaleNumber { till: 1, sequence: sequence.parse()? }, &question)?;
     book.save(path)?;

@@ -16,21 +16,17 @@
 //! A sale, and the book in a file:
 //!
 //! ```
-//! use offers::{Book, Leg, Outcome, Question, SaleNumber, Station, Ticket};
+//! use offers::{Book, Leg, Outcome, Question, SaleNumber, Ticket};
 //!
 //! # fn main() -> Result<(), Box<dyn std::error::Error>> {
 //! # let path = std::env::temp_dir().join(format!("offers-first-sale-{}", std::process::id()));
 //! let bundle = std::fs::read("../examples/sample.bundle")?;
-//! let [start, change, end] = [Station::new(12345, 5)?, Station::new(23456, 7)?, Station::new(34567, 8)?];
 //! let question = Question::new(&Ticket {
 //!     offer: 42,
 //!     day: 20240615,
 //!     persons: 3,
 //!     cards: &[7],
-//!     legs: &[
-//!         Leg { railway: 1185, fare: 1010, from: start, to: change },
-//!         Leg { railway: 1181, fare: 500, from: change, to: end },
-//!     ],
+//!     legs: &[Leg { railway: 1185, fare: 1010 }, Leg { railway: 1181, fare: 500 }],
 //! })?;
 //!
 //! let mut book = Book::new();
@@ -59,7 +55,6 @@ mod raw;
 mod reason;
 mod receipt;
 mod sales;
-mod station;
 mod stored;
 
 pub use book::Book;
@@ -70,7 +65,6 @@ pub use question::{Leg, Question, Ticket, TooMany};
 pub use reason::{Reason, Refusal};
 pub use receipt::{Outcome, Receipt, SaleNumber};
 pub use sales::{Sale, Sales};
-pub use station::{NotAStation, Station};
 pub use stored::{StoredError, STORED_BYTES};
 
 /// The version of this crate, which is that of the engine and of its C header.

@@ -30,9 +30,6 @@ pub const LARGEST_CARD: u32 = 999;
 /// The largest plain fare of a leg per person, in cents; the smallest is 0.
 pub const LARGEST_PLAIN_FARE: u32 = 999_999;
 
-/// The largest number of a [`Station`](crate::Station) as it is typed; the smallest is 0.
-pub const LARGEST_STATION: u32 = 999_999;
-
 /// The largest number of a till; the smallest is 1.
 pub const LARGEST_TILL: u32 = 65_535;
 

@@ -26,7 +26,7 @@ pub fn judge(bundle: &[u8]) -> Result<usize, Refusal> {
 ///
 /// # Errors
 ///
-/// The numbers of [`judge`], and 11 to 20.
+/// The numbers of [`judge`], and 11 to 17.
 pub fn fare(bundle: &[u8], question: &Question) -> Result<Quote, Refusal> {
     let quote = raw::fare(bundle, question);
     check(&quote.head)?;

@@ -1,5 +1,5 @@
 //! What is asked of a fare or a sale.
-use crate::{Station, MOST_CARDS, MOST_LEGS};
+use crate::{MOST_CARDS, MOST_LEGS};
 use std::error::Error;
 use std::fmt;
 
@@ -11,10 +11,6 @@ pub struct Leg {
     pub railway: u32,
     /// The plain fare per person in cents, 0 to 999,999.
     pub fare: u32,
-    /// The station where it begins; the default where none is given.
-    pub from: Station,
-    /// The station where it ends; the default where none is given.
-    pub to: Station,
 }
 
 /// What a [`Question`] is made of, by name. Its limits are the engine's to judge, but for the counts of cards and legs.
@@ -51,7 +47,7 @@ impl Question {
     /// ```
     /// use offers::{Leg, Question, Ticket, TooMany};
     ///
-    /// let legs = [Leg { railway: 1185, fare: 1010, ..Leg::default() }; 9];
+    /// let legs = [Leg { railway: 1185, fare: 1010 }; 9];
     /// let ticket = Ticket { offer: 42, day: 20240615, persons: 3, cards: &[7, 21], legs: &legs[..2] };
     /// let question = Question::new(&ticket)?;
     /// assert_eq!((question.offer(), question.cards(), question.legs().len()), (42, &[7, 21][..], 2));

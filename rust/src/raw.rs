@@ -2,7 +2,7 @@
 //!
 //! All that is `unsafe` in this crate stands here.
 #![allow(unsafe_code)]
-use crate::{Leg, Question, SaleNumber, Station, MOST_LEGS};
+use crate::{Leg, Question, SaleNumber, MOST_LEGS};
 
 /// The first three numbers of every reply: those of a refusal, or all 0.
 #[repr(C)]
@@ -120,9 +120,8 @@ pub fn find(book: &[u32], number: SaleNumber) -> Booking {
 /// The layouts of the header, held to while this is compiled.
 const _: () = {
     use std::mem::{offset_of, size_of};
-    assert!(size_of::<Leg>() == 16 && offset_of!(Leg, railway) == 0 && offset_of!(Leg, fare) == 4);
-    assert!(size_of::<Station>() == 4 && offset_of!(Leg, from) == 8 && offset_of!(Leg, to) == 12);
-    assert!(size_of::<Question>() == 160);
+    assert!(size_of::<Leg>() == 8 && offset_of!(Leg, railway) == 0 && offset_of!(Leg, fare) == 4);
+    assert!(size_of::<Question>() == 96);
     assert!(offset_of!(Question, offer) == 0 && offset_of!(Question, day) == 4);
     assert!(offset_of!(Question, persons) == 8 && offset_of!(Question, cards) == 12);
     assert!(offset_of!(Question, count) == 28 && offset_of!(Question, legs) == 32);
@@ -135,8 +134,8 @@ const _: () = {
     assert!(offset_of!(Receipt, cancelled) == 28 && offset_of!(Receipt, parts) == 32);
     assert!(size_of::<Sum>() == 32 && offset_of!(Sum, amount) == 24);
     assert!(size_of::<Tally>() == 32 && offset_of!(Tally, entries) == 24);
-    assert!(size_of::<Booking>() == 240 && offset_of!(Booking, entry) == 24);
+    assert!(size_of::<Booking>() == 176 && offset_of!(Booking, entry) == 24);
     assert!(offset_of!(Booking, sequence) == 32 && offset_of!(Booking, till) == 40);
     assert!(offset_of!(Booking, status) == 44 && offset_of!(Booking, question) == 48);
-    assert!(offset_of!(Booking, parts) == 208);
+    assert!(offset_of!(Booking, parts) == 144);
 };

@@ -61,7 +61,6 @@ reasons! {
     15 ConditionUnread "a leg's conditions have one that the engine does not read"
     // 16 was FareTooHigh; neither is used again
     17 CardTwice "the question gives a card twice"
-    20 CheckDigitWrong "the check digit of a station is wrong"
     21 BookUnsound "the book is not sound"
     22 NumberOutside "the till or the sequence is 0 or too large"
     23 NumberTaken "the sale number is held by another question"
@@ -77,8 +76,7 @@ pub struct Refusal {
     pub reason: Reason,
     /// The record, leg or entry, counted from 0; 0 where the reason has none.
     pub place: usize,
-    /// The field, the earlier record, the missing link (1 to 4) or the station of a leg (0 `from`, 1 `to`); 0 where the
-    /// reason has none.
+    /// The field, the earlier record or the missing link (1 to 4); 0 where the reason has none.
     pub detail: usize,
 }
 

@@ -1,10 +1,8 @@
 //! A day at a till, and what is turned away.
 mod common;
 
-use common::{book_of, question, question_with, station};
-use common::{BUNDLE, CHANGE, END, NUMBER, PARTS, RAILCARD, START, TICKET};
-use offers::{fare, judge, Book, Leg, Outcome, Question, Reason, SaleNumber, Station, Ticket};
-use offers::{BOOK_WORDS, MOST_BUNDLE_BYTES};
+use common::{question, question_with, BUNDLE, NUMBER, PARTS, RAILCARD, TICKET};
+use offers::{fare, judge, Book, Outcome, Question, Reason, SaleNumber, Ticket, BOOK_WORDS, MOST_BUNDLE_BYTES};
 
 const FAMILY_BUNDLE: &[u8] = include_bytes!("../../examples/family.bundle");
 const MEMBERS_CARD: u32 = 21;
@@ -94,62 +92,6 @@ fn cards_are_within_their_limits_and_differ() {
     assert_eq!(refusal_of(&[0, RAILCARD]).reason, Reason::OutsideLimits);
 }
 
-fn question_between(stations: [Station; 4]) -> Question {
-    let [first, second] = [TICKET.legs[0], TICKET.legs[1]];
-    let [from, to, then_from, then_to] = stations;
-    let legs = [Leg { from, to, ..first }, Leg { from: then_from, to: then_to, ..second }];
-    Question::new(&Ticket { legs: &legs, ..TICKET }).unwrap()
-}
-
-#[test]
-fn a_mistyped_station_is_told_by_its_leg_and_end() {
-    let right = [START, CHANGE, CHANGE, END];
-    assert_eq!(question_between(right), question());
-    for (which, (leg, end)) in [(0, 0), (0, 1), (1, 0), (1, 1)].into_iter().enumerate() {
-        let mut mistyped = right;
-        mistyped[which] = station(12354, 5);
-        let refusal = fare(BUNDLE, &question_between(mistyped)).unwrap_err();
-        assert_eq!((refusal.reason, refusal.reason.number()), (Reason::CheckDigitWrong, 20));
-        assert_eq!((refusal.place, refusal.detail), (leg, end));
-    }
-}
-
-#[test]
-fn a_mistyped_station_comes_after_limits_and_cards_and_before_all_legs() {
-    let refusal_of = |persons, cards: &[u32], end| {
-        let legs = [TICKET.legs[0], Leg { to: end, ..TICKET.legs[1] }];
-        let question = Question::new(&Ticket { persons, cards, legs: &legs, ..TICKET }).unwrap();
-        fare(b"", &question).unwrap_err().reason
-    };
-    let mistyped = station(34567, 7);
-    assert_eq!(refusal_of(0, &[RAILCARD, RAILCARD], mistyped), Reason::OutsideLimits);
-    assert_eq!(refusal_of(3, &[RAILCARD, RAILCARD], mistyped), Reason::CardTwice);
-    assert_eq!(refusal_of(3, &[RAILCARD], mistyped), Reason::CheckDigitWrong);
-    assert_eq!(refusal_of(3, &[RAILCARD], END), Reason::NoConditions);
-}
-
-#[test]
-fn any_one_wrong_digit_of_a_station_is_noticed() {
-    let is_answered = |end| fare(BUNDLE, &question_between([START, CHANGE, CHANGE, end])).is_ok();
-    for value in [1, 10, 100, 1000, 10_000, 100_000] {
-        let right = END.typed() / value % 10;
-        for digit in 0..=9 {
-            let typed = END.typed() - right * value + digit * value;
-            assert_eq!(is_answered(station(typed / 10, typed % 10)), digit == right);
-        }
-    }
-}
-
-#[test]
-fn the_stations_are_part_of_the_question() {
-    let unnamed = question_between([Station::default(); 4]);
-    assert_eq!(fare(BUNDLE, &unnamed), fare(BUNDLE, &question()));
-    let mut book = Book::new();
-    book.sale(BUNDLE, NUMBER, &question()).unwrap();
-    assert_eq!(book.find(NUMBER).unwrap().unwrap().question.legs(), TICKET.legs);
-    assert_eq!(book.sale(BUNDLE, NUMBER, &unnamed).unwrap_err().reason, Reason::NumberTaken);
-}
-
 #[test]
 fn a_book_is_taken_back_only_if_it_is_sound() {
     let mut words = vec![0; BOOK_WORDS];
@@ -157,15 +99,4 @@ fn a_book_is_taken_back_only_if_it_is_sound() {
     assert_eq!(Book::from_words(&words[1..]).unwrap_err().reason, Reason::BookUnsound);
     words[0] = 1;
     assert_eq!(Book::from_words(&words).unwrap_err().reason, Reason::BookUnsound);
-}
-
-/// Books from before there were stations have 0 there, whose check digit is right.
-#[test]
-fn a_sound_book_has_right_check_digits() {
-    let mut words = book_of(1).as_words().to_vec();
-    let start = words.iter().position(|&word| word == START.typed()).unwrap();
-    words[start] += 1;
-    assert_eq!(Book::from_words(&words).unwrap_err().reason, Reason::BookUnsound);
-    words[start] = 0;
-    assert!(Book::from_words(&words).is_ok());
 }

@@ -31,7 +31,6 @@ fn the_limits_are_the_same() {
     assert_eq!(number("LARGEST_RAILWAY"), u64::from(offers::LARGEST_RAILWAY));
     assert_eq!(number("LARGEST_CARD"), u64::from(offers::LARGEST_CARD));
     assert_eq!(number("LARGEST_PLAIN_FARE"), u64::from(offers::LARGEST_PLAIN_FARE));
-    assert_eq!(number("LARGEST_STATION"), u64::from(offers::LARGEST_STATION));
     assert_eq!(number("LARGEST_TILL"), u64::from(offers::LARGEST_TILL));
     assert_eq!(number("LARGEST_SEQUENCE"), offers::LARGEST_SEQUENCE);
 }

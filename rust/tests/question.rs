@@ -41,7 +41,6 @@ fn it_has_four_cards_at_most() {
 #[test]
 fn it_is_shown_without_empty_slots() {
     let shown = "Question { offer: 42, day: 20240615, persons: 3, cards: [7], \
-                 legs: [Leg { railway: 1185, fare: 1010, from: Station(123455), to: Station(234567) }, \
-                 Leg { railway: 1181, fare: 500, from: Station(234567), to: Station(345678) }] }";
+                 legs: [Leg { railway: 1185, fare: 1010 }, Leg { railway: 1181, fare: 500 }] }";
     assert_eq!(format!("{:?}", question()), shown);
 }

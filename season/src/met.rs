@@ -83,7 +83,7 @@ events! {
 }
 
 /// The numbers by which riders.rs has fares refused.
-const FARES_REFUSED: [u8; 7] = [11, 12, 13, 14, 15, 17, 20];
+const FARES_REFUSED: [u8; 6] = [11, 12, 13, 14, 15, 17];
 
 pub struct Met {
     times: BTreeMap<Event, u64>,

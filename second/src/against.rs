@@ -7,7 +7,6 @@ mod driver;
 mod histories;
 mod saved;
 mod second;
-mod stations;
 mod tally;
 mod wire;
 
@@ -42,7 +41,6 @@ pub fn run(seed: u64, count: u64, folder: &Path, driver: Option<&[String]>) -> i
         bench.end_case();
     }
     dates::run(&mut bench, count)?;
-    stations::run(&mut bench, count)?;
     if let Some(driver) = bench.driver.take() {
         driver.end()?;
     }

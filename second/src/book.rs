@@ -63,7 +63,6 @@ impl Entry {
         is_sale_number(self.till, self.sequence)
             && self.question.is_within_limits()
             && !self.question.gives_a_card_twice()
-            && self.question.first_wrong_stop().is_none()
             && self.question == self.question.with_unused_slots_zero()
             && self.parts.iter().all(|&part| part <= self.largest_part())
             && self.parts[self.question.used_slots()..]
@@ -260,7 +259,6 @@ mod tests {
     use crate::generate::drafts::{assemble, Draft};
     use crate::layout::{co, Table};
     use crate::question::{asked, cards_of, Cards};
-    use crate::stations::stops::Stop;
 
     fn bundle() -> Vec<u8> {
         assemble(&[
@@ -642,62 +640,6 @@ mod tests {
         assert_eq!(refused_sale(book.sale(&bundle(), 2, 1, &twice)), (17, 0, 0));
         twice.persons = 0;
         assert_eq!(refused_sale(book.sale(&bundle(), 2, 1, &twice)), (11, 0, 0));
-        assert_eq!(book, one_sale());
-    }
-
-    #[test]
-    fn the_stations_of_an_entry_are_right_where_legs_are_used_and_zero_behind_them() {
-        for stop in Stop::all() {
-            let with =
-                |station| is_unsound(|book| book.entries[1].question.put_station(stop, station));
-            let is_used = stop.leg < 2;
-            assert!(!with(0), "{stop}");
-            for right in [18, 109, 123_455, 999_995] {
-                assert_eq!(with(right), !is_used, "{right} at {stop}");
-            }
-            for wrong in [1, 17, 999_999, 1_000_000, 3_702_958, u64::from(u32::MAX)] {
-                assert!(with(wrong), "{wrong} at {stop}");
-            }
-        }
-    }
-
-    #[test]
-    fn a_repeat_gives_the_same_stations() {
-        let with = |stop, station| {
-            let mut question = two_legs();
-            question.put_station(stop, station);
-            question
-        };
-        for stop in Stop::of_legs(2) {
-            let mut book = Book::default();
-            book.sale(&bundle(), 1, 1, &with(stop, 18));
-            for other in [0, 17, 26, 1_000_018] {
-                let answer = book.sale(&bundle(), 1, 1, &with(stop, other));
-                assert_eq!(refused_sale(answer), (23, 0, 0), "{other} at {stop}");
-            }
-            let mut filled = with(stop, 18);
-            filled.legs[2].to = 17;
-            assert_eq!(book.sale(b"XX", 1, 1, &filled), already(false));
-        }
-    }
-
-    #[test]
-    fn a_wrong_station_is_20_after_24_the_verdict_11_and_17() {
-        let mut wrong = two_legs();
-        wrong.legs[1].from = 17;
-        let mut full = full_book();
-        assert_eq!(refused_sale(full.sale(b"XX", 0, 1, &wrong)), (22, 0, 0));
-        assert_eq!(refused_sale(full.sale(b"XX", 1, 1, &wrong)), (23, 0, 0));
-        assert_eq!(refused_sale(full.sale(b"XX", 2, 1, &wrong)), (24, 0, 0));
-        let mut book = one_sale();
-        assert_eq!(refused_sale(book.sale(b"XX", 2, 1, &wrong)), (2, 0, 0));
-        assert_eq!(refused_sale(book.sale(&bundle(), 2, 1, &wrong)), (20, 1, 0));
-        wrong.legs[0].railway = 9;
-        assert_eq!(refused_sale(book.sale(&bundle(), 2, 1, &wrong)), (20, 1, 0));
-        wrong.cards = [7, 7, 0, 0];
-        assert_eq!(refused_sale(book.sale(&bundle(), 2, 1, &wrong)), (17, 0, 0));
-        wrong.legs[0].to = 1_000_000;
-        assert_eq!(refused_sale(book.sale(&bundle(), 2, 1, &wrong)), (11, 0, 0));
         assert_eq!(book, one_sale());
     }
 

@@ -1,4 +1,4 @@
-//! Renders "Pricing" with: the records chosen for each leg, the parts, and the fare, which needs no limit.
+//! Renders "Pricing" with: the records chosen for each leg, the parts, and the fare, which needs no limit.
 
 use crate::bundle::Record;
 use crate::cards::{CardRecord, CardUse, CardsOnLeg};
@@ -63,9 +63,6 @@ pub fn priced_legs(bundle: &[u8], question: &Question) -> Result<Vec<PricedLeg>,
     }
     if question.gives_a_card_twice() {
         return Err(Refusal::of_call(17));
-    }
-    if let Some(stop) = question.first_wrong_stop() {
-        return Err(Refusal::new(20, stop.leg as u64, stop.end.detail()));
     }
     let tariff = Tariff::of(&records);
     let mut legs = Vec::new();
@@ -257,8 +254,6 @@ mod tests {
     use crate::generate::drafts::{assemble, Draft};
     use crate::layout::{me, re};
     use crate::question::{asked, CARD_SLOTS};
-    use crate::stations::stops::Stop;
-    use crate::stations::typed;
 
     const LARGEST_FARE_BEFORE_R_13: u64 = 4_294_967_295;
 
@@ -647,8 +642,6 @@ mod tests {
         question.legs[1] = Leg {
             railway: 77_777,
             fare: u64::MAX,
-            from: 17,
-            to: u64::MAX,
         };
         assert_eq!(total(&[conditions("1185")], &question), 7);
     }
@@ -770,77 +763,6 @@ mod tests {
         ] {
             let question = Question { cards, ..twice };
             assert_eq!(refusal(&[], &question), (11, 0, 0), "{cards:?}");
-        }
-    }
-
-    fn eight_legs() -> Question {
-        let mut question = asked(1, &[], &[(1185, 7); LEG_SLOTS]);
-        for (place, stop) in (0..).zip(Stop::all()) {
-            question.put_station(stop, typed(99_990 + place % 10));
-        }
-        question
-    }
-
-    #[test]
-    fn right_stations_change_no_fare() {
-        let drafts = [conditions("0000")];
-        assert_eq!(total(&drafts, &eight_legs()), 56);
-        assert_eq!(total(&drafts, &asked(1, &[], &[(1185, 7); LEG_SLOTS])), 56);
-    }
-
-    #[test]
-    fn a_wrong_check_digit_is_20_with_its_leg_and_end() {
-        let drafts = [conditions("0000")];
-        let refusals = (0..8).flat_map(|leg| [(20, leg, 0), (20, leg, 1)]);
-        for (due, stop) in refusals.zip(Stop::all()) {
-            let mut question = eight_legs();
-            question.put_station(stop, 123_456);
-            assert_eq!(refusal(&drafts, &question), due);
-            for later in Stop::all().into_iter().filter(|&other| other > stop) {
-                question.put_station(later, 1);
-                assert_eq!(refusal(&drafts, &question), due);
-            }
-        }
-    }
-
-    #[test]
-    fn all_stations_are_judged_before_any_leg() {
-        let refused = [
-            (12, 0, conditions("1181")),
-            (13, 0, past(conditions("1185"))),
-            (14, 0, conditions("1185").with(28, "05")),
-            (15, 31, conditions("1185").with(31, "Y")),
-        ];
-        for (number, detail, draft) in refused {
-            let drafts = [draft];
-            assert_eq!(refusal(&drafts, &eight_legs()), (number, 0, detail));
-            let mut question = eight_legs();
-            question.legs[7].to = 1;
-            assert_eq!(refusal(&drafts, &question), (20, 7, 1));
-        }
-    }
-
-    #[test]
-    fn wrong_stations_are_20_after_the_verdict_11_and_17() {
-        let mut question = eight_legs();
-        question.legs[2].from = 1;
-        assert_eq!(refusal(&[], &question), (20, 2, 0));
-        question.cards = [7, 7, 0, 0];
-        assert_eq!(refusal(&[], &question), (17, 0, 0));
-        question.legs[3].to = 1_000_000;
-        assert_eq!(refusal(&[], &question), (11, 0, 0));
-        let double = [conditions("0000"), conditions("0000")];
-        assert_eq!(refusal(&double, &question), (6, 1, 0));
-    }
-
-    #[test]
-    fn stations_of_seven_digits_are_11_though_their_check_digit_is_right() {
-        for wide in [1_000_000, 3_702_958, 45_826_930, u64::from(u32::MAX)] {
-            for stop in Stop::all() {
-                let mut question = eight_legs();
-                question.put_station(stop, wide);
-                assert_eq!(refusal(&[], &question), (11, 0, 0), "{wide} at {stop}");
-            }
         }
     }
 }

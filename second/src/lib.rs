@@ -1,4 +1,4 @@
-//! Independent second program: document 01 as of document 02 leave it, by section and by request.
+//! Independent second program: document 01 as of document 02 leave it, by section and by request.
 
 pub mod against;
 pub mod book;
@@ -14,6 +14,5 @@ pub mod question;
 pub mod refusal;
 pub mod rounding;
 pub mod seasons;
-pub mod stations;
 pub mod values;
 pub mod verdict;

@@ -1,8 +1,6 @@
-//! Renders the first paragraph of "Pricing", with the cards of R-1 and the stations of R-14: a question and its limits.
+//! Renders the first paragraph of "Pricing", with the cards of R-1: a question and its limits.
 
 use crate::calendar::is_real_day;
-use crate::stations;
-use crate::stations::stops::{End, Stop};
 
 pub const LEG_SLOTS: usize = 8;
 pub const CARD_SLOTS: usize = 4;
@@ -21,8 +19,6 @@ pub const NO_CARDS: Cards = [NO_CARD; CARD_SLOTS];
 pub struct Leg {
     pub railway: u64,
     pub fare: u64,
-    pub from: u64,
-    pub to: u64,
 }
 
 #[derive(Clone, Copy, Debug, Default, PartialEq, Eq, Hash)]
@@ -73,25 +69,6 @@ impl Question {
         let cards = self.given_cards();
         (1..cards.len()).any(|place| cards[..place].contains(&cards[place]))
     }
-
-    /// Those of the used legs.
-    pub fn stops(&self) -> impl Iterator<Item = Stop> {
-        Stop::of_legs(self.used_slots())
-    }
-
-    pub fn station(&self, stop: Stop) -> u64 {
-        self.legs[stop.leg].station(stop.end)
-    }
-
-    pub fn put_station(&mut self, stop: Stop, station: u64) {
-        *self.legs[stop.leg].station_mut(stop.end) = station;
-    }
-
-    /// The first whose check digit is wrong.
-    pub fn first_wrong_stop(&self) -> Option<Stop> {
-        self.stops()
-            .find(|&stop| !stations::is_right(self.station(stop)))
-    }
 }
 
 fn are_within_limits(cards: &Cards) -> bool {
@@ -108,24 +85,7 @@ pub fn cards_of(given: &[u64]) -> Cards {
 
 impl Leg {
     fn is_within_limits(&self) -> bool {
-        is_railway(self.railway)
-            && self.fare <= LARGEST_PLAIN_FARE
-            && stations::is_within_limits(self.from)
-            && stations::is_within_limits(self.to)
-    }
-
-    pub fn station(&self, end: End) -> u64 {
-        match end {
-            End::From => self.from,
-            End::To => self.to,
-        }
-    }
-
-    pub fn station_mut(&mut self, end: End) -> &mut u64 {
-        match end {
-            End::From => &mut self.from,
-            End::To => &mut self.to,
-        }
+        is_railway(self.railway) && self.fare <= LARGEST_PLAIN_FARE
     }
 }
 
@@ -133,7 +93,7 @@ pub fn is_railway(number: u64) -> bool {
     (1..=LARGEST_RAILWAY).contains(&number)
 }
 
-/// Asks for offer 42 on a day of 2024, which the plain records serve; all stations are zero.
+/// Asks for offer 42 on a day of 2024, which the plain records serve.
 pub fn asked(persons: u64, cards: &[u64], legs: &[(u64, u64)]) -> Question {
     let mut question = Question {
         offer: 42,
@@ -144,11 +104,7 @@ pub fn asked(persons: u64, cards: &[u64], legs: &[(u64, u64)]) -> Question {
         ..Question::default()
     };
     for (slot, &(railway, fare)) in question.legs.iter_mut().zip(legs) {
-        *slot = Leg {
-            railway,
-            fare,
-            ..Leg::default()
-        };
+        *slot = Leg { railway, fare };
     }
     question
 }
@@ -181,10 +137,6 @@ mod tests {
         }
         for (value, good) in [(0, true), (999_999, true), (1_000_000, false)] {
             assert_eq!(within(|q| q.legs[1].fare = value), good);
-        }
-        for (value, good) in [(0, true), (999_999, true), (1_000_000, false)] {
-            assert_eq!(within(|q| q.legs[1].from = value), good);
-            assert_eq!(within(|q| q.legs[1].to = value), good);
         }
         for (value, good) in [(0, false), (1, true), (2, true), (3, false), (9, false)] {
             assert_eq!(within(|q| q.leg_count = value), good);
@@ -248,48 +200,10 @@ mod tests {
         junk.legs[2] = Leg {
             railway: u64::MAX,
             fare: u64::MAX,
-            from: 17,
-            to: u64::MAX,
         };
         assert!(junk.is_within_limits());
-        assert_eq!(junk.first_wrong_stop(), None);
         assert!(junk.is_same_as(&good()));
         assert_eq!(junk.with_unused_slots_zero(), good());
-    }
-
-    #[test]
-    fn the_first_wrong_stop_of_several() {
-        let stops = Stop::of_legs(2).collect::<Vec<Stop>>();
-        for wrong in 0..1 << stops.len() {
-            let mut question = good();
-            for (place, &stop) in stops.iter().enumerate() {
-                let is_wrong = wrong >> place & 1 == 1;
-                question.put_station(stop, if is_wrong { 17 } else { 18 });
-            }
-            let place = (wrong as u32).trailing_zeros() as usize;
-            assert_eq!(question.first_wrong_stop(), stops.get(place).copied());
-        }
-    }
-
-    #[test]
-    fn each_station_is_part_of_the_question() {
-        for stop in Stop::of_legs(2) {
-            let mut other = good();
-            other.put_station(stop, 18);
-            assert!(other.is_within_limits() && !other.is_same_as(&good()));
-            assert_eq!(other.station(stop), 18);
-        }
-        let ends = |from, to| {
-            let mut question = good();
-            question.legs[0] = Leg {
-                from,
-                to,
-                ..question.legs[0]
-            };
-            question
-        };
-        assert!(!ends(18, 26).is_same_as(&ends(26, 18)));
-        assert_eq!(ends(18, 18).first_wrong_stop(), None);
     }
 
     #[test]

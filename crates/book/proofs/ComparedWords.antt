@@ -36,21 +36,6 @@ module _ (q : Question) where
   pub used_said : (k : ℕ) → k < q.count → k < 8 → leg_of (question_words q) k ≡ get_or q.legs k no_leg
   used_said k l m = leg_said k m ∙ rw (lt-ltb k q.count l)
 
--- a question is the same as itself
-pub the_same : (q : Question) → SameQuestion q q
-the_same q =
-    record {
-      offer = refl;
-      day = refl;
-      persons = refl;
-      cards = λ k l. refl;
-      count = refl;
-      railways = λ k l. refl;
-      fares = λ k l. refl;
-      froms = λ k l. refl;
-      tos = λ k l. refl;
-    }
-
 module _ (q q' : Question) where
   module _ (few : q.count ≤ 8) (e : question_words q ≡ question_words q') where
     same_count : q.count ≡ q'.count
@@ -73,15 +58,13 @@ module _ (q q' : Question) where
           count = same_count;
           railways = λ k l. ap (λ leg. leg.railway) (same_leg k l);
           fares = λ k l. ap (λ leg. leg.fare) (same_leg k l);
-          froms = λ k l. ap (λ leg. leg.from) (same_leg k l);
-          tos = λ k l. ap (λ leg. leg.to) (same_leg k l);
         }
 
   module _ (s : SameQuestion q q') where
     leg_alike : (b : Bool) (k : ℕ) → ltb k q.count ≡ b → cond b (get_or q.legs k no_leg) no_leg ≡ cond b (get_or q'.legs k no_leg) no_leg
     leg_alike true k e =
         let l = ltb-true k q.count e in
-        λ j. record { railway = s.railways k l j; fare = s.fares k l j; from = s.froms k l j; to = s.tos k l j }
+        λ j. record { railway = s.railways k l j; fare = s.fares k l j }
     leg_alike false k e = refl
 
     legs_alike : up_to (leg_at q) 8 ≡ up_to (leg_at q') 8

@@ -14,20 +14,18 @@ use Rattle.common.specs.Lists.{every, only, up_to}
 use Rattle.common.proofs.Lists.{every_at, every_by, zero_at, is_same, upto_length, upto_at, first_length, first_at}
 use Rattle.common.proofs.Tests.{order, side, both_true, in_range}
 use Rattle.fares.specs.Question.{between, no_leg, is_given, card_slots, cards_differ, in_limits}
-use Rattle.fares.specs.Stations.{stations_right, RightStations}
 use Rattle.fares.specs.Reductions.{part_bound}
 use Rattle.fares.specs.Meaning.{LegInLimits, leg_at, card_at, InLimits}
 use Rattle.fares.proofs.CardSlots.{differ_means, means_differ}
 use Rattle.fares.proofs.QuestionLimits.{limits_mean, means_limits}
-use Rattle.fares.proofs.StationLaws.{stations_mean, mean_stations}
 use Rattle.fares.specs.declared.Question.{Question}
-use Rattle.book.specs.Words.{Entry, offer_at, day_at, cards_at, count_at, persons_at, railway_at, fare_at, from_at, to_at, leg_of, question_width, question_of, question_words, sequence_at, asked_at, parts_at, status_at, spare_at, width, entry_of}
+use Rattle.book.specs.Words.{Entry, offer_at, day_at, cards_at, count_at, persons_at, railway_at, fare_at, leg_of, question_width, question_of, question_words, sequence_at, asked_at, parts_at, status_at, spare_at, width, entry_of}
 use Rattle.book.specs.Sound.{is_zero, number_in_limits, asked_sound, bound_of, is_bounded, entry_sound}
-use Rattle.book.specs.Meaning.{Within, word, asked_word, cards_in, Used, till, sequence, offer, day, persons, card, count, railway, fare, from, to, part, status, SoundSale}
+use Rattle.book.specs.Meaning.{Within, word, asked_word, cards_in, Used, till, sequence, offer, day, persons, card, count, railway, fare, part, status, SoundSale}
 use Rattle.book.proofs.QuestionPlaces.{places, used_again}
 use Rattle.book.proofs.QuestionWords.{words_length, asked_again}
 use Rattle.book.proofs.EntryWords.{asked_at_lem, part_at, card_at_lem, count_at_lem}
-use Rattle.book.proofs.SoundBook.{SoundEntry, sound_entry, asked_limits, asked_differ, asked_stations, no_part}
+use Rattle.book.proofs.SoundBook.{SoundEntry, sound_entry, asked_limits, asked_differ, no_part}
 
 module _ (b : List ℕ) (long : length b ≡ width) where
   abbrev e : Entry
@@ -84,9 +82,6 @@ module _ (b : List ℕ) (long : length b ≡ width) where
     leg : (k : ℕ) → k < n → LegInLimits (leg_of ws k)
     leg k l = rw (leg_is k (omega (arith, few))) at (asked.legs k (rw (count_at_lem b) l))
 
-    right : (k : ℕ) → k < n → RightStations (leg_of ws k)
-    right k l = rw (leg_is k (omega (arith, few))) at (stations_mean q (asked_stations ws s.asked_well) k (rw (count_at_lem b) l))
-
     -- a place of the question, of the parts, and any
     in_question : (r : ℕ) → r < question_width → Used n (asked_at + r) ⊎ (word b (asked_at + r) ≡ 0)
     in_question r l =
@@ -128,8 +123,6 @@ module _ (b : List ℕ) (long : length b ≡ width) where
           count = rw (asked_at_lem b count_at (omega arith)) at asked.count;
           railways = λ k l. rw (asked_at_lem b (railway_at k) (omega (arith, few))) at (leg k l).railway;
           fares = λ k l. rw (asked_at_lem b (fare_at k) (omega (arith, few))) at (leg k l).fare;
-          froms = λ k l. let i = asked_at_lem b (from_at k) (omega (arith, few)) in (rw i at (leg k l).from, rw i at (right k l).from);
-          tos = λ k l. let i = asked_at_lem b (to_at k) (omega (arith, few)) in (rw i at (leg k l).to, rw i at (right k l).to);
           parts = λ k l.
               let h = every_at (λ p. leb p (bound_of q)) e.parts s.bounded k 0 (omega (arith, few, parts_long)) in
               rw (part_at b k (omega (arith, few)), bound_is) at (leb-true (get_or e.parts k 0) (bound_of q) h);
@@ -152,19 +145,7 @@ module _ (b : List ℕ) (long : length b ≡ width) where
     number_found = rw (between_by 1 65535 _ e.till refl s.till, between_by 1 4294967295 _ e.sequence refl s.sequence)
 
     leg_found : (k : ℕ) → k < n → k < 8 → LegInLimits (leg_of ws k)
-    leg_found k l m =
-        record {
-          railway = rw (asked_at_lem b (railway_at k) (omega arith)) (s.railways k l);
-          fare = rw (asked_at_lem b (fare_at k) (omega arith)) (s.fares k l);
-          from = rw (asked_at_lem b (from_at k) (omega arith)) (s.froms k l).0;
-          to = rw (asked_at_lem b (to_at k) (omega arith)) (s.tos k l).0;
-        }
-
-    right_found : (k : ℕ) → k < n → k < 8 → RightStations (leg_of ws k)
-    right_found k l m = record { from = rw (asked_at_lem b (from_at k) (omega arith)) (s.froms k l).1; to = rw (asked_at_lem b (to_at k) (omega arith)) (s.tos k l).1 }
-
-    stations_found : stations_right q ≡ true
-    stations_found = mean_stations q (λ k l. rw (leg_is k (omega (arith, few_said))) (right_found k (omega (arith, said_count)) (omega (arith, few_said))))
+    leg_found k l m = record { railway = rw (asked_at_lem b (railway_at k) (omega arith)) (s.railways k l); fare = rw (asked_at_lem b (fare_at k) (omega arith)) (s.fares k l) }
 
     limits_found : in_limits q ≡ true
     unfolding question_of
@@ -198,7 +179,7 @@ module _ (b : List ℕ) (long : length b ≡ width) where
     asked_found =
         let k : length ws ≡ question_width = rw (length-take, length-drop) (omega arith) in
         let i : ws ≡ question_words q = ext_get_or 0 ws (question_words q) (k ∙ sym (words_length q)) (λ r l. word_again r (omega arith)) in
-        rw (limits_found, differ_found, stations_found, is_same ws (question_words q) i)
+        rw (limits_found, differ_found, is_same ws (question_words q) i)
 
     -- behind the parts of the legs only the status is used
     behind : (p : ℕ) → parts_at + n ≤ p → p < width → (p ≡ status_at → ⊥) → word b p ≡ 0
@@ -214,8 +195,6 @@ module _ (b : List ℕ) (long : length b ≡ width) where
         unless_used (count i) = absurd (omega arith)
         unless_used (railway k m i) = absurd (omega (arith, s.count))
         unless_used (fare k m i) = absurd (omega (arith, s.count))
-        unless_used (from k m i) = absurd (omega (arith, s.count))
-        unless_used (to k m i) = absurd (omega (arith, s.count))
         unless_used (part k m i) = absurd (omega arith)
         unless_used (status i) = absurd (no-status i)
 

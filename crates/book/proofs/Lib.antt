@@ -12,6 +12,5 @@ pub mod BalanceSums
 pub mod TotalIsSum
 pub mod EntryMeaning
 pub mod BookMeaning
-pub mod SoundAlike
-pub mod OfTheBase
+pub mod OneCard
 pub mod Places

@@ -14,7 +14,7 @@ use Rattle.fares.specs.Question.{no_leg, is_given, card_slots, cards_of}
 use Rattle.fares.specs.Meaning.{card_at}
 use Rattle.fares.specs.declared.Leg.{Leg}
 use Rattle.fares.specs.declared.Question.{Question}
-use Rattle.book.specs.Words.{Entry, offer_at, day_at, cards_at, count_at, persons_at, railway_at, fare_at, from_at, to_at, till_at, sequence_at, asked_at, parts_at, status_at, width, question_width, start_of, leg_of, question_of, entry_words, entry_at}
+use Rattle.book.specs.Words.{Entry, offer_at, day_at, cards_at, count_at, persons_at, railway_at, fare_at, till_at, sequence_at, asked_at, parts_at, status_at, width, question_width, start_of, leg_of, question_of, entry_words, entry_at}
 use Rattle.book.specs.Meaning.{asked_word, cards_in}
 use Rattle.book.specs.Places.{given, Places, at, Says, Kept}
 use Rattle.book.proofs.EntryWords.{word_at, part_at, asked_at_lem, card_at_lem}
@@ -32,8 +32,6 @@ the_places =
       persons = refl;
       railways = λ k. omega arith;
       fares = λ k. omega arith;
-      froms = λ k. omega arith;
-      tos = λ k. omega arith;
       parts = refl;
       status = refl;
       long = refl;
@@ -76,8 +74,6 @@ module _ (book : List ℕ) (i : ℕ) where
         persons = asked_here persons_at 10 (omega arith) refl;
         railways = λ k l. ap (λ (leg : Leg). leg.railway) (leg_is k l) ∙ asked_here (railway_at k) (21 + 4 * k) (omega arith) (omega arith);
         fares = λ k l. ap (λ (leg : Leg). leg.fare) (leg_is k l) ∙ asked_here (fare_at k) (22 + 4 * k) (omega arith) (omega arith);
-        froms = λ k l. ap (λ (leg : Leg). leg.from) (leg_is k l) ∙ asked_here (from_at k) (23 + 4 * k) (omega arith) (omega arith);
-        tos = λ k l. ap (λ (leg : Leg). leg.to) (leg_is k l) ∙ asked_here (to_at k) (24 + 4 * k) (omega arith) (omega arith);
         parts = λ k l. part_at ws k l ∙ here (parts_at + k) (53 + k) (omega arith) (omega arith);
         status = here status_at 61 (omega arith) refl;
       }

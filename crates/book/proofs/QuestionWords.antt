@@ -4,7 +4,7 @@
 use Prim.Native.Nat.{ℕ, suc, ◌+◌, ◌-◌, ◌*◌, ◌≤◌, ◌<◌}
 use mathlib.Core.Path.{◌≡◌, refl, sym, ◌∙◌, ap}
 use mathlib.Core.Bool.{Bool, true, false, cond, ◌&&◌}
-use mathlib.Core.List.{List, [], ◌∷◌, ◌++◌, flat_map}
+use mathlib.Core.List.{List, [], ◌∷◌, ◌++◌, flat_map, append_assoc}
 use mathlib.Core.Logic.{⊎_elim}
 use native.Mathlib.Omega.{arith}
 use lib.Dec.{ltb}
@@ -15,13 +15,11 @@ use Rattle.common.specs.Lists.{same, up_to}
 use Rattle.common.proofs.Lists.{upto_length, upto_at, upto_same, upto_more, first_length, first_at, is_same, same_is}
 use Rattle.common.proofs.Tests.{both_true, side}
 use Rattle.fares.specs.Question.{no_leg, legs_of, card_slots, cards_differ, in_limits}
-use Rattle.fares.specs.Stations.{stations_right}
-use Rattle.fares.specs.Fare.{well_asked}
 use Rattle.fares.specs.Meaning.{card_at}
 use Rattle.fares.specs.declared.Leg.{Leg}
 use Rattle.fares.specs.declared.Question.{Question}
 use Rattle.fares.proofs.FareLaws.{asked}
-use Rattle.book.specs.Words.{cards_width, card_words, pair_words, leg_at, leg_words, leg_width, railway_at, fare_at, from_at, to_at, question_words, question_of, question_width}
+use Rattle.book.specs.Words.{cards_width, card_words, pair_words, leg_at, leg_words, leg_width, railway_at, fare_at, question_words, question_of, question_width}
 use Rattle.book.specs.Sound.{asked_sound, bound_of}
 
 module _ (q : Question) where
@@ -83,20 +81,18 @@ module _ (q : Question) where
       first_at no_leg q.count kept.legs j l
       ∙ (upto_at (leg_at q) 8 j no_leg (omega arith) ∙ rw (lt-ltb j q.count l) (sym (first_at no_leg q.count q.legs j l))))
 
-  well_kept : well_asked q ≡ true → well_asked kept ≡ true
+  pub asked_sound_lem : in_limits q ≡ true → cards_differ (card_slots q) ≡ true → asked_sound (question_words q) ≡ true
   unfolding in_limits
-  well_kept e =
-      let l : in_limits q ≡ true = (both_true (in_limits q) (cards_differ (card_slots q) && stations_right q) e).0 in
-      rw (slots_kept, legs_asked (asked q l).few) e
-
-  pub asked_sound_lem : well_asked q ≡ true → asked_sound (question_words q) ≡ true
-  asked_sound_lem e = rw (said, well_kept e, is_same (question_words q) (question_words kept) (sym words_again ∙ ap question_words said))
+  asked_sound_lem e d =
+      let l : in_limits kept ≡ true = rw (slots_kept, legs_asked (asked q e).few) e in
+      rw (said, l, slots_kept, d, is_same (question_words q) (question_words kept) (sym words_again ∙ ap question_words said))
 
 -- and words that are sound are those of the question that they say
 pub asked_again : (ws : List ℕ) → asked_sound ws ≡ true → question_words (question_of ws) ≡ ws
 asked_again ws e =
     let q = question_of ws in
-    sym (same_is ws (question_words q) (both_true (well_asked q) (same ws (question_words q)) e).1)
+    let own = same ws (question_words q) in
+    sym (same_is ws (question_words q) (both_true (cards_differ (card_slots q)) own (both_true (in_limits q) (cards_differ (card_slots q) && own) e).1).1)
 
 -- AS THEY ARE WRITTEN: the words before the legs, the legs so far, and zeros
 abbrev pub written : Question → ℕ → List ℕ
@@ -112,27 +108,19 @@ unfolding flat_map
 flat_more [] leg = refl
 flat_more (x ∷ legs) leg = ap (leg_words x ++◌) (flat_more legs leg)
 
--- the zero behind other words, and four of them
-next_set : (p z : List ℕ) (n v : ℕ) → length p ≡ n → (set (p ++ (0 ∷ z)) n v ≡ (p ++ (v ∷ [])) ++ z) × (length (p ++ (v ∷ [])) ≡ n + 1)
-next_set p z n v e = (set_at p 0 z v n e ∙ sym (append_snoc p v z), length-append p (v ∷ []) ∙ omega (arith, e))
-
+-- two words of four zeros behind other words
 leg_set : (p z : List ℕ) (n : ℕ) (leg : Leg) → length p ≡ n
-    → set (set (set (set (p ++ (0 ∷ 0 ∷ 0 ∷ 0 ∷ z)) n leg.railway) (n + 1) leg.fare) (n + 2) leg.from) (n + 3) leg.to ≡ (p ++ leg_words leg) ++ z
+    → set (set (p ++ (0 ∷ 0 ∷ 0 ∷ 0 ∷ z)) n leg.railway) (n + 1) leg.fare ≡ (p ++ leg_words leg) ++ z
 leg_set p z n leg e =
     let a = leg.railway in
-    let b = leg.fare in
-    let c = leg.from in
-    let d = leg.to in
-    let one = next_set p (0 ∷ 0 ∷ 0 ∷ z) n a e in
-    let two = next_set (p ++ (a ∷ [])) (0 ∷ 0 ∷ z) (n + 1) b one.1 in
-    let three = next_set ((p ++ (a ∷ [])) ++ (b ∷ [])) (0 ∷ z) (n + 2) c (omega (arith, two.1)) in
-    let four = next_set (((p ++ (a ∷ [])) ++ (b ∷ [])) ++ (c ∷ [])) z (n + 3) d (omega (arith, three.1)) in
-    rw (one.0, two.0, three.0)
-    (four.0
-    ∙ ap (◌++ z) (append_snoc ((p ++ (a ∷ [])) ++ (b ∷ [])) c (d ∷ []) ∙ (append_snoc (p ++ (a ∷ [])) b (c ∷ d ∷ []) ∙ append_snoc p a (b ∷ c ∷ d ∷ []))))
+    let s : set (p ++ (0 ∷ 0 ∷ 0 ∷ 0 ∷ z)) n a ≡ (p ++ (a ∷ [])) ++ (0 ∷ 0 ∷ 0 ∷ z) =
+    set_at p 0 (0 ∷ 0 ∷ 0 ∷ z) a n e ∙ sym (append_snoc p a (0 ∷ 0 ∷ 0 ∷ z)) in
+    rw s
+    (set_at (p ++ (a ∷ [])) 0 (0 ∷ 0 ∷ z) leg.fare (n + 1) (simp length-append (omega arith))
+    ∙ (append_snoc p a (leg.fare ∷ 0 ∷ 0 ∷ z) ∙ sym (append_assoc p (leg_words leg) z)))
 
 pub leg_written : (q : Question) (j : ℕ) {leg : Leg} {ws : List ℕ} → j < 8 → leg ≡ leg_at q j → ws ≡ written q j
-    → set (set (set (set ws (railway_at j) leg.railway) (fare_at j) leg.fare) (from_at j) leg.from) (to_at j) leg.to ≡ written q (j + 1)
+    → set (set ws (railway_at j) leg.railway) (fare_at j) leg.fare ≡ written q (j + 1)
 unfolding up_to
 leg_written q j {leg} l e i =
     let first = q.offer ∷ q.day ∷ (card_words q ++ (q.count ∷ pair_words q)) in

@@ -14,8 +14,6 @@ use Rattle.common.specs.Lists.{every, same}
 use Rattle.common.proofs.Tests.{both_true, side}
 use Rattle.common.proofs.Lists.{every_at, zero_at, upto_length, upto_at, first_length, first_at}
 use Rattle.fares.specs.Question.{between, no_leg, legs_of, leg_in_limits, card_slots, cards_differ, limits_of, in_limits}
-use Rattle.fares.specs.Stations.{stations_right}
-use Rattle.fares.specs.Fare.{well_asked}
 use Rattle.fares.proofs.FareLaws.{asked as asked_of}
 use Rattle.book.specs.Words.{Entry, no_entry, capacity, book_length, start_of, count_of, entries, entry_at, leg_of, question_of, question_words}
 use Rattle.book.specs.Sound.{is_zero, number_in_limits, asked_sound, bound_of, is_bounded, entry_sound, numbers_differ, sound_words}
@@ -63,22 +61,14 @@ sound_entry e g =
     }
 
 -- the question of a sound entry, its cards, its leg count and its legs
-asked_tests : (ws : List ℕ) → asked_sound ws ≡ true → let q = question_of ws in
-    (in_limits q ≡ true) × (cards_differ (card_slots q) ≡ true) × (stations_right q ≡ true)
-asked_tests ws e =
-    let q = question_of ws in
-    let a = both_true (in_limits q) (cards_differ (card_slots q) && stations_right q) (both_true (well_asked q) (same ws (question_words q)) e).0 in
-    let b = both_true (cards_differ (card_slots q)) (stations_right q) a.1 in
-    (a.0, b.0, b.1)
+asked_tests : (ws : List ℕ) → asked_sound ws ≡ true → let q = question_of ws in (in_limits q ≡ true) × ((cards_differ (card_slots q) && same ws (question_words q)) ≡ true)
+asked_tests ws e = let q = question_of ws in both_true (in_limits q) (cards_differ (card_slots q) && same ws (question_words q)) e
 
 pub asked_limits : (ws : List ℕ) → asked_sound ws ≡ true → in_limits (question_of ws) ≡ true
 asked_limits ws e = (asked_tests ws e).0
 
 pub asked_differ : (ws : List ℕ) → asked_sound ws ≡ true → cards_differ (card_slots (question_of ws)) ≡ true
-asked_differ ws e = (asked_tests ws e).1
-
-pub asked_stations : (ws : List ℕ) → asked_sound ws ≡ true → stations_right (question_of ws) ≡ true
-asked_stations ws e = (asked_tests ws e).2
+asked_differ ws e = (both_true (cards_differ (card_slots (question_of ws))) (same ws (question_words (question_of ws))) (asked_tests ws e).1).0
 
 pub few_legs : (ws : List ℕ) → asked_sound ws ≡ true → (question_of ws).count ≤ 8
 few_legs ws e = (asked_of (question_of ws) (asked_limits ws e)).few

@@ -10,7 +10,7 @@ use lib.Seq.{get_or-set_other, drop-set-lt}
 use Rattle.common.specs.Lists.{every}
 use Rattle.common.proofs.Lists.{every_append, every_map, set_map}
 use Rattle.common.proofs.Sums.{map_at}
-use Rattle.fares.specs.Fare.{well_asked}
+use Rattle.fares.specs.Question.{card_slots, cards_differ, in_limits}
 use Rattle.fares.specs.declared.Question.{Question}
 use Rattle.book.specs.Words.{Entry, no_entry, capacity, start_of, status_at, count_of, entries, booking}
 use Rattle.book.specs.Sound.{is_zero, number_in_limits, bound_of, is_bounded, entry_sound, has_number, held_at, numbers_differ}
@@ -22,10 +22,10 @@ use Rattle.book.proofs.SoundBook.{IsSound, sound_entry, entry_is, entries_length
 use Rattle.book.proofs.ChangedEntries.{added_count, entries_added, added_long, added_clear, entries_cancelled}
 
 -- A BOOKING is a sound entry, and one more such entry with a new number leaves the book sound
-pub booking_sound : (t s : ℕ) (q : Question) (parts : List ℕ) → number_in_limits t s ≡ true → well_asked q ≡ true
-    → is_bounded (bound_of q) parts ≡ true → every is_zero (drop q.count parts) ≡ true → entry_sound (booking t s q parts) ≡ true
+pub booking_sound : (t s : ℕ) (q : Question) (parts : List ℕ) → number_in_limits t s ≡ true → in_limits q ≡ true
+    → cards_differ (card_slots q) ≡ true → is_bounded (bound_of q) parts ≡ true → every is_zero (drop q.count parts) ≡ true → entry_sound (booking t s q parts) ≡ true
 unfolding entry_sound every
-booking_sound t s q parts n a b z = rw (n, asked_sound_lem q a, said_bound q, b, said_count q, z)
+booking_sound t s q parts n l d b z = rw (n, asked_sound_lem q l d, said_bound q, b, said_count q, z)
 
 module _ (w : List ℕ) (s : IsSound w) (e : Entry) (room : count_of w < capacity) (h : Whole e) (good : entry_sound e ≡ true)
     (new-number : held_at e.till e.sequence (entries w) ≡ length (entries w)) where

@@ -6,7 +6,7 @@ use mathlib.Core.Path.{◌≡◌, refl, sym, ◌∙◌, ap, ap₂}
 use mathlib.Core.Bool.{Bool, true, false, cond}
 use mathlib.Core.List.{List, [], ◌∷◌}
 use mathlib.Core.Logic.{⊎_elim}
-use lib.Dec.{eqb}
+use lib.Dec.{eqb, leb}
 use lib.ListN.{get_or}
 use Rattle.common.specs.Lists.{sum, every, up_to}
 use Rattle.common.proofs.Tests.{side, both_true, either_way, in_range}
@@ -14,7 +14,7 @@ use Rattle.common.proofs.Lists.{upto_same}
 use Rattle.common.proofs.Sums.{sum_both, sum_nothing, sum_swapped, hits, one_hit}
 use Rattle.layout.specs.Company.{is_railway}
 use Rattle.fares.specs.declared.Question.{Question}
-use Rattle.book.specs.Words.{Entry, entries, question_of, railway_at}
+use Rattle.book.specs.Words.{Entry, entries, question_of, railway_at, fare_at}
 use Rattle.book.specs.Sound.{entry_sound, sound_words}
 use Rattle.book.specs.Amounts.{leg_part, of_railway, of_all, live_amount, balance_of}
 use Rattle.book.proofs.SoundBook.{sound_entry, leg_limits, no_part, is_sound}
@@ -41,7 +41,7 @@ module _ (e : Entry) (g : entry_sound e ≡ true) where
 
   railway_in : (j : ℕ) → j < q.count → is_railway (get_or asked (railway_at j) 0) ≡ true
   railway_in j l =
-      (both_true (is_railway (get_or asked (railway_at j) 0)) _ (leg_limits asked (sound_entry e g).asked_well j l)).0
+      (both_true (is_railway (get_or asked (railway_at j) 0)) (leb (get_or asked (fare_at j) 0) 999999) (leg_limits asked (sound_entry e g).asked_well j l)).0
 
   abbrev railway : ℕ → ℕ
   railway j = get_or asked (railway_at j) 0

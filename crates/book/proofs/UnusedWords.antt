@@ -10,17 +10,16 @@ use lib.ListN.{length, get_or, take, drop, length-take, length-drop}
 use lib.Seq.{ext_get_or, get_or-take, get_or-drop}
 use borrow.Author.Tests.{eqb-true, eq-eqb}
 use Rattle.common.specs.Lists.{every, same, first_of, up_to}
-use Rattle.common.proofs.Lists.{every_at, every_by, every_both, zero_at, is_same, same_is, first_length, first_at, upto_length, upto_at}
-use Rattle.common.proofs.Tests.{never, refuted}
+use Rattle.common.proofs.Lists.{every_at, every_by, zero_at, is_same, same_is, first_length, first_at, upto_length, upto_at}
+use Rattle.common.proofs.Tests.{side, never, both_true, refuted}
 use Rattle.fares.specs.Question.{no_leg, leg_in_limits, legs_of, card_slots, cards_in_limits, cards_differ}
-use Rattle.fares.specs.Stations.{are_stations}
 use Rattle.fares.specs.Helpers.{trip_in_limits}
 use Rattle.fares.specs.declared.Question.{Question}
 use Rattle.fares.proofs.QuestionLimits.{limits_apart}
-use Rattle.book.specs.Words.{more_pairs_at, more_pairs_width, railway_at, fare_at, from_at, to_at, question_width, leg_of, question_of, question_words, asked_at}
+use Rattle.book.specs.Words.{more_pairs_at, more_pairs_width, railway_at, fare_at, third_at, fourth_at, question_width, leg_of, question_of, question_words, asked_at}
 use Rattle.book.specs.Sound.{is_zero, asked_sound}
-use Rattle.book.specs.Meaning.{Used, till, sequence, offer, day, persons, card, count, railway, fare, from, to, part, status}
-use Rattle.book.specs.Helpers.{leg_sound, unused_zero}
+use Rattle.book.specs.Meaning.{Used, till, sequence, offer, day, persons, card, count, railway, fare, part, status}
+use Rattle.book.specs.Helpers.{leg_clear, legs_clear, unused_zero}
 use Rattle.book.proofs.QuestionPlaces.{Unused, all_places, words_unused, places, used_again}
 use Rattle.book.proofs.QuestionWords.{words_length}
 use Rattle.book.proofs.SoundBook.{zero_from}
@@ -32,6 +31,15 @@ module _ (ws : List ℕ) (n : ℕ) (long : length ws ≡ question_width) (few : 
     unfolding unused_zero
     behind = zero_from ws (railway_at n) (every_at (λ b. b) _ e 2 true (omega arith))
 
+    in_leg : (k : ℕ) → k < n → (get_or ws (third_at k) 0 ≡ 0) × (get_or ws (fourth_at k) 0 ≡ 0)
+    unfolding unused_zero
+    in_leg k l =
+        let h : legs_clear ws n ≡ true = every_at (λ b. b) _ e 3 true (omega arith) in
+        let g : leg_clear ws (get_or (up_to (λ j. j) n) k 0) ≡ true = every_at (leg_clear ws) (up_to (λ j. j) n) h k 0 (rw (upto_length (λ (j : ℕ). j) n) l) in
+        let f : leg_clear ws k ≡ true = rw (upto_at (λ (j : ℕ). j) n k 0 l) at g in
+        let b = both_true (is_zero (get_or ws (third_at k) 0)) (is_zero (get_or ws (fourth_at k) 0)) f in
+        (eqb-true _ 0 b.0, eqb-true _ 0 b.1)
+
     found : Unused ws n
     unfolding unused_zero
     found =
@@ -40,13 +48,9 @@ module _ (ws : List ℕ) (n : ℕ) (long : length ws ≡ question_width) (few : 
           pairs = λ k l.
               let h : every is_zero (take more_pairs_width (drop more_pairs_at ws)) ≡ true = every_at (λ b. b) _ e 1 true (omega arith) in
               sym (get_or-take more_pairs_width (drop more_pairs_at ws) k 0 l ∙ get_or-drop more_pairs_at ws k 0) ∙ zero_at (take more_pairs_width (drop more_pairs_at ws)) h k;
-          legs = λ k l h j.
-              record {
-                railway = behind (railway_at k) (omega arith) j;
-                fare = behind (fare_at k) (omega arith) j;
-                from = behind (from_at k) (omega arith) j;
-                to = behind (to_at k) (omega arith) j;
-              };
+          third = λ k l. ⊎_elim (λ h. (in_leg k h).0) (λ h. behind (third_at k) (omega arith)) (side k n);
+          fourth = λ k l. ⊎_elim (λ h. (in_leg k h).1) (λ h. behind (fourth_at k) (omega arith)) (side k n);
+          legs = λ k l h. (behind (railway_at k) (omega arith), behind (fare_at k) (omega arith));
         }
 
   -- and zero, it is found so
@@ -64,8 +68,6 @@ module _ (ws : List ℕ) (n : ℕ) (long : length ws ≡ question_width) (few : 
         unless_used (count i) = absurd (omega arith)
         unless_used (railway k m i) = absurd (omega arith)
         unless_used (fare k m i) = absurd (omega arith)
-        unless_used (from k m i) = absurd (omega arith)
-        unless_used (to k m i) = absurd (omega arith)
         unless_used (part k m i) = absurd (omega arith)
         unless_used (status i) = absurd (omega arith)
 
@@ -81,9 +83,16 @@ module _ (ws : List ℕ) (n : ℕ) (long : length ws ≡ question_width) (few : 
         every_by is_zero 0 (drop (railway_at n) ws)
         (λ j l. eq-eqb _ 0 (get_or-drop (railway_at n) ws j 0 ∙ legs_behind (railway_at n + j) (omega arith) (omega (arith, length-drop (railway_at n) ws))))
 
+    legs_found : legs_clear ws n ≡ true
+    legs_found =
+        every_by (leg_clear ws) 0 (up_to (λ j. j) n)
+        (λ k l. let h : k < n = rw (upto_length (λ (j : ℕ). j) n) at l in
+        let m : k < 8 = omega arith in
+        rw (upto_at (λ (j : ℕ). j) n k 0 h, eq-eqb _ 0 (z.third k m), eq-eqb _ 0 (z.fourth k m)))
+
     is_found : unused_zero ws n ≡ true
     unfolding unused_zero every
-    is_found = rw (eq-eqb _ 0 z.category, pairs_found, behind_found)
+    is_found = rw (eq-eqb _ 0 z.category, pairs_found, behind_found, legs_found)
 
 -- THE LAW
 module _ (ws : List ℕ) (long : length ws ≡ question_width) (few : (question_of ws).count ≤ 8) where
@@ -118,18 +127,15 @@ module _ (ws : List ℕ) (long : length ws ≡ question_width) (few : (question_
 
   -- SOUND WORDS test by test: what is asked for besides cards and legs, the cards, that they differ, what is not used, the legs
   pub sound_apart : asked_sound ws ≡ (trip_in_limits q.offer q.day q.persons q.count
-      && (cards_in_limits (card_slots q) && (cards_differ (card_slots q) && (unused_zero ws q.count && every leg_sound (up_to (leg_of ws) q.count)))))
+      && (cards_in_limits (card_slots q) && (cards_differ (card_slots q) && (unused_zero ws q.count && every leg_in_limits (up_to (leg_of ws) q.count)))))
   sound_apart =
-      let legs = up_to (leg_of ws) q.count in
-      rw (same_if_unused, limits_apart q, legs_asked, ← every_both leg_in_limits are_stations legs)
-      (go (trip_in_limits q.offer q.day q.persons q.count) (cards_in_limits (card_slots q)) (every leg_in_limits legs) (cards_differ (card_slots q))
-      (every are_stations legs) (unused_zero ws q.count))
+      rw (same_if_unused, limits_apart q, legs_asked)
+      (go (trip_in_limits q.offer q.day q.persons q.count) (cards_in_limits (card_slots q)) (every leg_in_limits (up_to (leg_of ws) q.count))
+      (cards_differ (card_slots q)) (unused_zero ws q.count))
     where
-      go : (trip cards legs differ stations unused : Bool)
-          → (((trip && (cards && legs)) && (differ && stations)) && unused) ≡ (trip && (cards && (differ && (unused && (legs && stations)))))
-      go false cards legs differ stations unused = refl
-      go true false legs differ stations unused = refl
-      go true true false differ stations unused = rw (and-false unused, and-false differ) refl
-      go true true true false stations unused = refl
-      go true true true true stations true = and-true stations
-      go true true true true stations false = and-false stations
+      go : (trip cards legs differ unused : Bool)
+          → ((trip && (cards && legs)) && (differ && unused)) ≡ (trip && (cards && (differ && (unused && legs))))
+      go false cards legs differ unused = refl
+      go true false legs differ unused = refl
+      go true true true differ unused = rw (and-true unused) refl
+      go true true false differ unused = rw (and-false unused, and-false differ) refl

@@ -2,11 +2,8 @@
 -- Assumes nothing.
 use Rattle.std.specs.Prelude.{ℕ, ◌+◌, ◌*◌, ◌≤◌, ◌<◌, Bool, cond, ◌&&◌, List, [], ◌∷◌, eqb, ltb, get_or, take, drop}
 use Rattle.common.specs.Least.{least}
-use Rattle.common.specs.Lists.{every}
-use Rattle.fares.specs.Question.{leg_in_limits}
-use Rattle.fares.specs.Stations.{are_stations}
-use Rattle.fares.specs.declared.Leg.{Leg}
-use Rattle.book.specs.Words.{pairs_at, more_pairs_at, more_pairs_width, railway_at, entry_at}
+use Rattle.common.specs.Lists.{every, up_to}
+use Rattle.book.specs.Words.{pairs_at, more_pairs_at, more_pairs_width, railway_at, third_at, fourth_at, entry_at}
 use Rattle.book.specs.Sound.{is_zero, has_number}
 use Rattle.book.specs.Amounts.{of_railway, of_all}
 
@@ -26,17 +23,20 @@ RanksUpTo book i top = (j : ℕ) → j < i → rank (entry_at book j).till (entr
 abbrev pub repeats_earlier : List ℕ → ℕ → Bool
 repeats_earlier book i = ltb (held_before book i (entry_at book i).till (entry_at book i).sequence) i
 
--- a leg within its limits whose stations are right
-abbrev pub leg_sound : Leg → Bool
-leg_sound leg = leg_in_limits leg && are_stations leg
+-- WHAT A QUESTION OF n LEGS DOES NOT USE among its words is zero: two words of each leg, the category, further pairs, and the legs from n on
+abbrev pub leg_clear : List ℕ → ℕ → Bool
+leg_clear ws j = is_zero (get_or ws (third_at j) 0) && is_zero (get_or ws (fourth_at j) 0)
 
--- WHAT A QUESTION OF n LEGS DOES NOT USE among its words is zero: the category, further pairs, and the legs from n on
+abbrev pub legs_clear : List ℕ → ℕ → Bool
+legs_clear ws n = every (leg_clear ws) (up_to (λ j. j) n)
+
 unfoldable pub unused_zero : List ℕ → ℕ → Bool
 unused_zero ws n =
     every (λ b. b) (
     is_zero (get_or ws pairs_at 0) ∷
     every is_zero (take more_pairs_width (drop more_pairs_at ws)) ∷
     every is_zero (drop (railway_at n) ws) ∷
+    legs_clear ws n ∷
     [])
 
 -- WHAT COUNTS by one number: 0 stands for all railways, as it does in the tables

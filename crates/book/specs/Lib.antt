@@ -1,7 +1,7 @@
 pub mod Words
 pub mod Sound
 pub mod Meaning
-pub mod Base
+pub mod OneCard
 pub mod Places
 pub mod Due
 pub mod SameQuestion

@@ -1,14 +1,12 @@
 -- WHAT A SOUND BOOK IS, value by value (document 01, 'The sales book': "A book is sound if its count is at most 256, its numbers differ, its fields are in
--- the limits above, parts are within the bound, and unused places are zero"; the limits of a question are those of 'Pricing', its cards differ, and its
--- stations are right).
+-- the limits above, parts are within the bound, and unused places are zero"; the limits of a question are those of 'Pricing', and its cards differ).
 -- Assumes nothing.
 use Rattle.std.specs.Prelude.{ℕ, ◌+◌, ◌*◌, ◌≤◌, ◌<◌, ◌≡◌, List, ◌⊎◌, length, get_or}
 use Rattle.common.specs.Lists.{only, up_to}
 use Rattle.layout.specs.Calendar.{RealDay}
 use Rattle.fares.specs.Question.{is_given}
-use Rattle.fares.specs.Stations.{RightStation}
 use Rattle.fares.specs.Reductions.{greater}
-use Rattle.book.specs.Words.{offer_at, day_at, cards_at, count_at, persons_at, railway_at, fare_at, from_at, to_at, till_at, sequence_at, asked_at, parts_at, status_at, width, book_length, count_of, start_of, entry_words}
+use Rattle.book.specs.Words.{offer_at, day_at, cards_at, count_at, persons_at, railway_at, fare_at, till_at, sequence_at, asked_at, parts_at, status_at, width, book_length, count_of, start_of, entry_words}
 
 abbrev pub Within : ℕ → ℕ → ℕ → Type 0
 Within lowest highest v = (lowest ≤ v) × (v ≤ highest)
@@ -35,8 +33,6 @@ pub data Used (n p : ℕ) : Type 0 where
   count : p ≡ asked_at + count_at → Used n p
   railway : (k : ℕ) → k < n → p ≡ asked_at + railway_at k → Used n p
   fare : (k : ℕ) → k < n → p ≡ asked_at + fare_at k → Used n p
-  from : (k : ℕ) → k < n → p ≡ asked_at + from_at k → Used n p
-  to : (k : ℕ) → k < n → p ≡ asked_at + to_at k → Used n p
   part : (k : ℕ) → k < n → p ≡ parts_at + k → Used n p
   status : p ≡ status_at → Used n p
 
@@ -53,8 +49,6 @@ pub record SoundSale (ws : List ℕ) : Type 0 where
   pub count : Within 1 8 (asked_word ws count_at)
   pub railways : (k : ℕ) → k < asked_word ws count_at → Within 1 9999 (asked_word ws (railway_at k))
   pub fares : (k : ℕ) → k < asked_word ws count_at → asked_word ws (fare_at k) ≤ 999999
-  pub froms : (k : ℕ) → k < asked_word ws count_at → (asked_word ws (from_at k) ≤ 999999) × RightStation (asked_word ws (from_at k))
-  pub tos : (k : ℕ) → k < asked_word ws count_at → (asked_word ws (to_at k) ≤ 999999) × RightStation (asked_word ws (to_at k))
   pub parts : (k : ℕ) → k < asked_word ws count_at → word ws (parts_at + k) ≤ 99 * (999999 + 998 * (1 + greater 1 (cards_in ws)))
   pub status : word ws status_at ≤ 1
   -- each other place is zero

@@ -3,7 +3,7 @@
 use Rattle.std.specs.Prelude.{ℕ, ◌+◌, ◌*◌, ◌<◌, ◌≡◌, cond, List, eqb, length, get_or}
 use Rattle.fares.specs.Question.{no_leg}
 use Rattle.fares.specs.Meaning.{card_at}
-use Rattle.book.specs.Words.{Entry, no_entry, offer_at, day_at, cards_at, count_at, persons_at, railway_at, fare_at, from_at, to_at, till_at, sequence_at, asked_at, parts_at, status_at, width, book_length, start_of, count_of, entry_words, entries, question_of}
+use Rattle.book.specs.Words.{Entry, no_entry, offer_at, day_at, cards_at, count_at, persons_at, railway_at, fare_at, till_at, sequence_at, asked_at, parts_at, status_at, width, book_length, start_of, count_of, entry_words, entries, question_of}
 
 -- a card counts one, and none counts nothing
 abbrev pub given : ℕ → ℕ
@@ -20,8 +20,6 @@ pub record Places : Type 0 where
   pub persons : asked_at + persons_at ≡ 10
   pub railways : (k : ℕ) → asked_at + railway_at k ≡ 21 + 4 * k
   pub fares : (k : ℕ) → asked_at + fare_at k ≡ 22 + 4 * k
-  pub froms : (k : ℕ) → asked_at + from_at k ≡ 23 + 4 * k
-  pub tos : (k : ℕ) → asked_at + to_at k ≡ 24 + 4 * k
   pub parts : parts_at ≡ 53
   pub status : status_at ≡ 61
   pub long : width ≡ 64
@@ -42,8 +40,6 @@ pub record Says (book : List ℕ) (i : ℕ) (e : Entry) : Type 0 where
   pub persons : (question_of e.asked).persons ≡ at book i 10
   pub railways : (k : ℕ) → k < 8 → (get_or (question_of e.asked).legs k no_leg).railway ≡ at book i (21 + 4 * k)
   pub fares : (k : ℕ) → k < 8 → (get_or (question_of e.asked).legs k no_leg).fare ≡ at book i (22 + 4 * k)
-  pub froms : (k : ℕ) → k < 8 → (get_or (question_of e.asked).legs k no_leg).from ≡ at book i (23 + 4 * k)
-  pub tos : (k : ℕ) → k < 8 → (get_or (question_of e.asked).legs k no_leg).to ≡ at book i (24 + 4 * k)
   pub parts : (k : ℕ) → k < 8 → get_or e.parts k 0 ≡ at book i (53 + k)
   pub status : e.status ≡ at book i 61
 

@@ -14,5 +14,3 @@ pub record SameQuestion (q q' : Question) : Type 0 where
   pub count : q.count ≡ q'.count
   pub railways : (k : ℕ) → k < q.count → (get_or q.legs k no_leg).railway ≡ (get_or q'.legs k no_leg).railway
   pub fares : (k : ℕ) → k < q.count → (get_or q.legs k no_leg).fare ≡ (get_or q'.legs k no_leg).fare
-  pub froms : (k : ℕ) → k < q.count → (get_or q.legs k no_leg).from ≡ (get_or q'.legs k no_leg).from
-  pub tos : (k : ℕ) → k < q.count → (get_or q.legs k no_leg).to ≡ (get_or q'.legs k no_leg).to

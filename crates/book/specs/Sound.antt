@@ -3,8 +3,7 @@
 use Rattle.std.specs.Prelude.{ℕ, Bool, ◌&&◌, List, [], ◌∷◌, eqb, leb, ltb, length, get_or, drop}
 use Rattle.common.specs.Least.{least}
 use Rattle.common.specs.Lists.{every, same}
-use Rattle.fares.specs.Question.{between, cards_of}
-use Rattle.fares.specs.Fare.{well_asked}
+use Rattle.fares.specs.Question.{between, card_slots, cards_of, cards_differ, in_limits}
 use Rattle.fares.specs.Reductions.{part_bound}
 use Rattle.fares.specs.declared.Question.{Question}
 use Rattle.book.specs.Words.{Entry, no_entry, capacity, book_length, start_of, count_of, entries, question_of, question_words}
@@ -16,9 +15,9 @@ is_zero x = eqb x 0
 abbrev pub number_in_limits : ℕ → ℕ → Bool
 number_in_limits till sequence = between 1 65535 till && between 1 4294967295 sequence
 
--- the question's words are those of a question within its limits, with no card given twice and no check digit wrong, so that unused places among them are zero
+-- the question's words are those of a question within its limits, with no card given twice, so that unused places among them are zero
 abbrev pub asked_sound : List ℕ → Bool
-asked_sound ws = well_asked (question_of ws) && same ws (question_words (question_of ws))
+asked_sound ws = in_limits (question_of ws) && (cards_differ (card_slots (question_of ws)) && same ws (question_words (question_of ws)))
 
 -- the bound on a part, by the number of the question's own cards
 abbrev pub bound_of : Question → ℕ

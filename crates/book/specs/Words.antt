@@ -55,11 +55,11 @@ railway_at j = legs_at + leg_width * j
 abbrev pub fare_at : ℕ → ℕ
 fare_at j = railway_at j + 1
 
-abbrev pub from_at : ℕ → ℕ
-from_at j = railway_at j + 2
+abbrev pub third_at : ℕ → ℕ
+third_at j = railway_at j + 2
 
-abbrev pub to_at : ℕ → ℕ
-to_at j = railway_at j + 3
+abbrev pub fourth_at : ℕ → ℕ
+fourth_at j = railway_at j + 3
 
 -- the four cards, in their order
 abbrev pub card_words : Question → List ℕ
@@ -69,26 +69,27 @@ card_words q = up_to (card_at q) cards_width
 abbrev pub pair_words : Question → List ℕ
 pair_words q = 0 ∷ q.persons ∷ replicate more_pairs_width 0
 
+-- a leg's words, of which two are kept zero
 abbrev pub leg_words : Leg → List ℕ
-leg_words leg = leg.railway ∷ leg.fare ∷ leg.from ∷ leg.to ∷ []
+leg_words leg = leg.railway ∷ leg.fare ∷ 0 ∷ 0 ∷ []
 
 -- from the leg count on there is no leg, whatever the slot holds
 abbrev pub leg_at : Question → ℕ → Leg
 leg_at q j = cond (ltb j q.count) (get_or q.legs j no_leg) no_leg
 
--- the words of a question, given those of its cards and of a leg
-abbrev pub words_with : List ℕ → (Leg → List ℕ) → Question → List ℕ
-words_with cards leg_words q = q.offer ∷ q.day ∷ (cards ++ (q.count ∷ (pair_words q ++ flat_map leg_words (up_to (leg_at q) 8))))
+-- the words of a question, given those of its cards
+abbrev pub words_with : List ℕ → Question → List ℕ
+words_with cards q = q.offer ∷ q.day ∷ (cards ++ (q.count ∷ (pair_words q ++ flat_map leg_words (up_to (leg_at q) 8))))
 
 unfoldable pub question_words : Question → List ℕ
-question_words q = words_with (card_words q) leg_words q
+question_words q = words_with (card_words q) q
 
 -- the question that words say
 abbrev pub card_in : List ℕ → ℕ → ℕ
 card_in ws k = get_or ws (cards_at + k) 0
 
 abbrev pub leg_of : List ℕ → ℕ → Leg
-leg_of ws j = record { railway = get_or ws (railway_at j) 0; fare = get_or ws (fare_at j) 0; from = get_or ws (from_at j) 0; to = get_or ws (to_at j) 0 }
+leg_of ws j = record { railway = get_or ws (railway_at j) 0; fare = get_or ws (fare_at j) 0 }
 
 unfoldable pub question_of : List ℕ → Question
 question_of ws =

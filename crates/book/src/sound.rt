@@ -1,15 +1,14 @@
 // When a book is sound, and a sale number within its limits.
 ghost use Rattle.std.specs.Prelude.{◌≡◌, ◌+◌, ◌*◌, ◌≤◌, ◌<◌, length, true};
 ghost use Rattle.common.specs.Lists.{every, up_to};
+ghost use Rattle.fares.specs.Question.{leg_in_limits};
 ghost use Rattle.book.specs.Words.{capacity, start_of, width, question_width, leg_of, question_of, entry_of, entry_at};
 ghost use Rattle.book.specs.Sound.{number_in_limits, asked_sound, entry_sound, sound_words};
-ghost use Rattle.book.specs.Helpers.{leg_sound};
 
 use super::words::{
     ASKED, CAPACITY, COUNT, DAY, ENTRIES, ENTRY_COUNT, LEG_COUNT, LENGTH, OFFER, PARTS, PERSONS,
     SEQUENCE, SPARE, STATUS, TILL, WIDTH,
 };
-use fares::Leg;
 
 // Whether a sale number is within its limits.
 pub fn is_number(till: u32, sequence: u64) -> bool
@@ -27,24 +26,14 @@ pub fn is_number(till: u32, sequence: u64) -> bool
     sequence <= 4294967295
 }
 
-// Whether a leg is within its limits, with right stations.
-fn leg_sound(leg: Leg) -> bool
-    ensures { result ≡ leg_sound leg }
-{
-    if !fares::limits::leg_in_limits(leg) {
-        return false;
-    }
-    fares::stations::are_right(leg)
-}
-
-// Whether the first legs that words say are sound.
-fn legs_sound(words: &[u32], count: usize) -> bool
+// Whether the first legs that words say are within their limits.
+fn legs_in_limits(words: &[u32], count: usize) -> bool
     requires { (length words.now ≡ question_width) × (count ≤ 8) }
-    ensures { result ≡ every leg_sound (up_to (leg_of words.now) count) }
+    ensures { result ≡ every leg_in_limits (up_to (leg_of words.now) count) }
 {
     let mut j = 0;
     while j < count {
-        if !leg_sound(super::words::leg_in(words, j)) {
+        if !fares::limits::leg_in_limits(super::words::leg_in(words, j)) {
             return false;
         }
         j += 1;
@@ -70,7 +59,7 @@ fn asked_sound(words: &[u32], cards: [u32; 4]) -> bool
     if !super::words::unused_zero(words, count as usize) {
         return false;
     }
-    legs_sound(words, count as usize)
+    legs_in_limits(words, count as usize)
 }
 
 // Whether the words of an entry are sound.

@@ -3,7 +3,7 @@ ghost use Rattle.std.specs.Prelude.{◌≡◌, ◌+◌, ◌≤◌, ◌<◌, leng
 ghost use Rattle.common.specs.Lists.{every, same, up_to};
 ghost use Rattle.book.specs.Words.{question_width, railway_at, leg_at, leg_of, question_words, question_of};
 ghost use Rattle.book.specs.Sound.{is_zero, is_bounded};
-ghost use Rattle.book.specs.Helpers.{unused_zero};
+ghost use Rattle.book.specs.Helpers.{legs_clear, unused_zero};
 
 use fares::{Leg, Question};
 
@@ -70,8 +70,6 @@ fn leg_at(q: Question, j: usize) -> Leg
         return Leg {
             railway: 0,
             fare: 0,
-            from: 0,
-            to: 0,
         };
     }
     let legs = q.legs;
@@ -98,8 +96,6 @@ pub fn question_words(q: Question) -> [u32; QUESTION_WIDTH]
         let at = LEGS + LEG_WIDTH * j;
         words[at] = leg.railway;
         words[at + 1] = leg.fare;
-        words[at + 2] = leg.from;
-        words[at + 3] = leg.to;
         j += 1;
     }
     words
@@ -114,8 +110,6 @@ pub fn leg_in(words: &[u32], j: usize) -> Leg
     Leg {
         railway: words[at],
         fare: words[at + 1],
-        from: words[at + 2],
-        to: words[at + 3],
     }
 }
 
@@ -140,8 +134,6 @@ fn legs_in(words: &[u32]) -> [Leg; 8]
     let mut legs = [Leg {
         railway: 0,
         fare: 0,
-        from: 0,
-        to: 0,
     }; 8];
     let mut j = 0;
     while j < 8 {
@@ -202,6 +194,25 @@ pub fn all_zero(words: &[u32]) -> bool
     all_bounded(words, 0)
 }
 
+// Whether two words of each of the first legs, which are kept zero, are.
+fn legs_clear(words: &[u32], count: usize) -> bool
+    requires { (length words.now ≡ question_width) × (count ≤ 8) }
+    ensures { result ≡ legs_clear words.now count }
+{
+    let mut j = 0;
+    while j < count {
+        let at = LEGS + LEG_WIDTH * j;
+        if words[at + 2] != 0 {
+            return false;
+        }
+        if words[at + 3] != 0 {
+            return false;
+        }
+        j += 1;
+    }
+    true
+}
+
 fn sum_of_four(first: u32, second: u32, third: u32, fourth: u32) -> u64
     ensures { result ≡ first + second + third + fourth }
 {
@@ -234,7 +245,10 @@ pub fn unused_zero(words: &[u32], count: usize) -> bool
     if !all_zero(&words[MORE_PAIRS..LEGS]) {
         return false;
     }
-    legs_zero(words, count)
+    if !legs_zero(words, count) {
+        return false;
+    }
+    legs_clear(words, count)
 }
 
 // The eight words from a place on.

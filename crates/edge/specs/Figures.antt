@@ -3,7 +3,7 @@
 use Rattle.std.specs.Prelude.{ℕ, ◌≡◌, List, [], ◌∷◌, replicate}
 use Rattle.common.specs.Checks.{refuse}
 use Rattle.offers.specs.Answers.{Told, answers, refuses, booked, already_booked}
-use Rattle.fares.specs.Samples.{between, ticket}
+use Rattle.fares.specs.Samples.{leg, ticket}
 use Rattle.fares.specs.declared.Question.{Question}
 use Rattle.sales.specs.Reading.{no_question, no_booking}
 use Rattle.sales.specs.declared.Booking.{Booking}
@@ -19,7 +19,7 @@ parts = 2274 ∷ 1500 ∷ 0 ∷ 0 ∷ 0 ∷ 0 ∷ 0 ∷ 0 ∷ []
 
 -- a sale of till 7, its twelfth, at entry 3, cancelled
 abbrev pub asked : Question
-asked = ticket 3 [] 2 (between 123455 234567 1185 1010 ∷ between 234567 345678 1181 500 ∷ [])
+asked = ticket 3 [] 2 (leg 1185 1010 ∷ leg 1181 500 ∷ [])
 
 abbrev pub sold : Booking
 sold = record { outcome = Found; entry = 3; till = 7; sequence = 12; question = asked; parts = parts; status = 1 }

@@ -78,7 +78,6 @@ any_order bundle R q before after s t l d fare parts f =
       good = f.good;
       within_limits = l;
       cards_apart = d;
-      stations_are_right = f.stations_are_right;
       leg_by_leg = λ k m. leg_fare R q _ before after s t (f.leg_by_leg k m);
       none_beyond = f.none_beyond;
       eight = f.eight;

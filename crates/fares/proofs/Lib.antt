@@ -12,11 +12,8 @@ pub mod LegLaws
 pub mod LegMeaning
 pub mod CardSlots
 pub mod QuestionLimits
-pub mod StationLaws
 pub mod FareLaws
 pub mod PriceLaws
 pub mod Meaning
-pub mod OfTheBase
+pub mod OneCard
 pub mod CardOrder
-pub mod Mistyped
-pub mod WithoutStations

@@ -15,8 +15,9 @@ use Rattle.common.specs.Lists.{sum}
 use Rattle.common.specs.Checks.{refuse, clean, fault, Check, check, first_fault, each_from}
 use Rattle.common.specs.declared.Refusal.{Refusal}
 use Rattle.common.proofs.Tests.{never, refuted, side}
+use Rattle.common.proofs.Lists.{first_length, first_at}
 use Rattle.common.proofs.Sums.{map_at, sum_bounded}
-use Rattle.common.proofs.Checks.{by_finding, one_clean, clean_one, append_clean, clean_append, each_clean, clean_each, one_fault, append_fault, no_fault, fault_append, after_clean, each_fault, fault_each}
+use Rattle.common.proofs.Checks.{by_finding, one_clean, clean_one, append_clean, clean_append, each_clean, clean_each, one_fault, append_fault, no_fault, fault_append, each_fault, fault_each}
 use Rattle.bundle.specs.Records.{Rec, records_of, rest_of}
 use Rattle.bundle.specs.Verdict.{checks, verdict_of}
 use Rattle.bundle.specs.Meaning.{Good}
@@ -27,17 +28,15 @@ use Rattle.bundle.proofs.Meaning.{accepted_good, good_accepted, recut}
 use Rattle.bundle.proofs.Faults.{fault_means, means_fault}
 use Rattle.fares.specs.Question.{no_leg, legs_of, card_slots, cards_of, cards_differ, in_limits}
 use Rattle.fares.specs.Reductions.{part_bound}
-use Rattle.fares.specs.Stations.{station_checks, RightStations}
 use Rattle.fares.specs.Legs.{leg_checks, part_of}
 use Rattle.fares.specs.Fare.{parts_of, price_checks, fare_checks, no_fare, priced, fare_of}
-use Rattle.fares.specs.Meaning.{leg_at, InLimits, CardsDiffer, StationsRight, LegFare, IsFare, NoFare, faulty, outside_limits, card_twice, wrong_station, at_leg}
+use Rattle.fares.specs.Meaning.{leg_at, InLimits, CardsDiffer, LegFare, IsFare, NoFare, faulty, outside_limits, card_twice, at_leg}
 use Rattle.fares.specs.declared.Question.{Question}
 use Rattle.fares.specs.declared.Quote.{Quote}
 use Rattle.fares.specs.declared.Pricing.TheVariants.{Priced}
 use Rattle.fares.proofs.LegLaws.{leg_small}
 use Rattle.fares.proofs.CardSlots.{differ_means, means_differ}
-use Rattle.fares.proofs.QuestionLimits.{leg_is, count_is, limits_mean, means_limits}
-use Rattle.fares.proofs.StationLaws.{clean_right, fault_wrong, wrong_fault, stations_are_right, station_clean, right_stations}
+use Rattle.fares.proofs.QuestionLimits.{limits_mean, means_limits}
 use Rattle.fares.proofs.LegMeaning.{leg_means, means_turned, means_priced}
 
 -- THE PARTS: one for each leg, nothing in the slots beyond them, eight in all
@@ -52,14 +51,20 @@ module _ (R : List Rec) (q : Question) where
   abbrev own : List ℕ
   own = map (part_of R q) (legs_of q)
 
+  as_many : length (legs_of q) ≡ q.count
+  as_many = first_length no_leg q.count q.legs
+
   own_length : length own ≡ q.count
-  own_length = length-map (legs_of q) (part_of R q) ∙ count_is q
+  own_length = length-map (legs_of q) (part_of R q) ∙ as_many
+
+  leg_is : (k : ℕ) → k < q.count → get_or (legs_of q) k no_leg ≡ leg_at q k
+  leg_is k l = first_at no_leg q.count q.legs k l
 
   part_of_leg : (k : ℕ) → k < q.count → get_or (parts_of R q) k 0 ≡ part_of R q (leg_at q k)
   unfolding parts_of
   part_of_leg k l =
       get_or-append own (replicate (8 - q.count) 0) 0 k (omega (arith, own_length))
-      ∙ (map_at (part_of R q) (legs_of q) k 0 no_leg (omega (arith, count_is q)) ∙ ap (part_of R q) (leg_is q k l))
+      ∙ (map_at (part_of R q) (legs_of q) k 0 no_leg (omega (arith, as_many)) ∙ ap (part_of R q) (leg_is k l))
 
   none_beyond : (k : ℕ) → q.count ≤ k → get_or (parts_of R q) k 0 ≡ 0
   unfolding parts_of
@@ -86,14 +91,8 @@ module _ (s : List ℕ) (q : Question) where
   abbrev cards : Check
   cards = check (not (cards_differ (card_slots q))) 17 0 0
 
-  abbrev station_faults : List Check
-  station_faults = each_from 0 station_checks (legs_of q)
-
   abbrev leg_faults : List Check
   leg_faults = each_from 0 (leg_checks R q) (legs_of q)
-
-  abbrev rest : List Check
-  rest = station_faults ++ leg_faults
 
   -- A FARE IS ANSWERED where nothing fails,
   answered : {fare : ℕ} {parts : List ℕ} → fare_of s q ≡ record { outcome = Priced; fare = fare; parts = parts }
@@ -109,18 +108,17 @@ module _ (s : List ℕ) (q : Question) where
     unfolding fare_checks
     passes = append_clean (checks s) (price_checks R q) c
 
-    within_limits : (in_limits q ≡ true) × (cards_differ (card_slots q) ≡ true) × (first_fault station_faults ≡ clean) × (first_fault leg_faults ≡ clean)
+    within_limits : (in_limits q ≡ true) × (cards_differ (card_slots q) ≡ true) × (first_fault leg_faults ≡ clean)
     unfolding price_checks
     within_limits =
-        let b = one_clean (not (in_limits q)) 11 0 0 (cards ∷ rest) passes.1 in
-        let d = one_clean (not (cards_differ (card_slots q))) 17 0 0 rest b.1 in
-        let f = append_clean station_faults leg_faults d.1 in
-        (not-false (in_limits q) b.0, not-false (cards_differ (card_slots q)) d.0, f.0, f.1)
+        let b = one_clean (not (in_limits q)) 11 0 0 (cards ∷ leg_faults) passes.1 in
+        let d = one_clean (not (cards_differ (card_slots q))) 17 0 0 leg_faults b.1 in
+        (not-false (in_limits q) b.0, not-false (cards_differ (card_slots q)) d.0, d.1)
 
     leg_priced : (k : ℕ) → k < q.count → LegFare R q (leg_at q k) (get_or (parts_of R q) k 0)
     leg_priced k l =
-        let e = each_clean (leg_checks R q) no_leg 0 (legs_of q) within_limits.3 k (omega (arith, count_is q)) in
-        let f : first_fault (leg_checks R q (0 + k) (leg_at q k)) ≡ clean = rw (leg_is q k l) at e in
+        let e = each_clean (leg_checks R q) no_leg 0 (legs_of q) within_limits.2 k (omega (arith, as_many R q)) in
+        let f : first_fault (leg_checks R q (0 + k) (leg_at q k)) ≡ clean = rw (leg_is R q k l) at e in
         rw (part_of_leg R q k l)
         (⊎_elim (λ h. h.1) (λ h. no_fault f h.2) (leg_means s R (clean_good passes.0) q (leg_at q k) (0 + k) (differ_means q within_limits.1)))
 
@@ -133,7 +131,6 @@ module _ (s : List ℕ) (q : Question) where
         good = clean_good (passes a.0).0;
         within_limits = l;
         cards_apart = differ_means q (within_limits a.0).1;
-        stations_are_right = stations_are_right q (within_limits a.0).2;
         leg_by_leg = leg_priced a.0;
         none_beyond = none_beyond R q;
         eight = eight_parts R q l.count.1;
@@ -151,54 +148,37 @@ module _ (s : List ℕ) (q : Question) where
   abbrev Told : Refusal → Type 0
   Told why = NoFare s R (rest_of s) q why.number why.place why.detail
 
-  same_fault : {x y : Refusal} → fault x ≡ fault y → x ≡ y
-  same_fault e = cc
-
-  by_station : Good s R → InLimits q → CardsDiffer q → (why : Refusal) → first_fault station_faults ≡ fault why → Told why
-  by_station g l d why e =
-      let h = each_fault station_checks no_leg 0 (legs_of q) why e in
-      let k = h.at in
-      let m : k < q.count = omega (arith, h.inside, count_is q) in
-      let f : first_fault (station_checks (0 + k) (leg_at q k)) ≡ fault why = rw (leg_is q k m) at h.fails in
-      let w = fault_wrong (0 + k) (leg_at q k) why f in
-      let before : (j : ℕ) → j < k → RightStations (leg_at q j) = λ j i. clean_right (0 + j) (leg_at q j) (rw (leg_is q j (omega arith)) at (h.earlier_clean j i)) in
-      told k w.0 w.1 (wrong_station g l d k m before w.2)
-    where
-      told : (k d : ℕ) → refuse 20 (0 + k) d ≡ why → NoFare s R (rest_of s) q 20 k d → Told why
-      told k d i n = rw (← i, zero-add) n
-
-  by_leg : Good s R → InLimits q → CardsDiffer q → StationsRight q → (why : Refusal) → first_fault leg_faults ≡ fault why → Told why
-  by_leg g l d r why e =
+  by_leg : Good s R → InLimits q → CardsDiffer q → (why : Refusal) → first_fault leg_faults ≡ fault why → Told why
+  by_leg g l d why e =
       let h = each_fault (leg_checks R q) no_leg 0 (legs_of q) why e in
       let k = h.at in
-      let m : k < q.count = omega (arith, h.inside, count_is q) in
-      let f : first_fault (leg_checks R q (0 + k) (leg_at q k)) ≡ fault why = rw (leg_is q k m) at h.fails in
+      let m : k < q.count = omega (arith, h.inside, as_many R q) in
+      let f : first_fault (leg_checks R q (0 + k) (leg_at q k)) ≡ fault why = rw (leg_is R q k m) at h.fails in
       ⊎_elim (λ c. no_fault c.0 f)
-      (λ c. let i : refuse c.0 (0 + k) c.1 ≡ why = same_fault (sym c.2 ∙ f) in rw (← i, zero-add) (at_leg g l d r k m (earlier k m h.earlier_clean) c.3))
+      (λ c. let i : refuse c.0 (0 + k) c.1 ≡ why = same_fault (sym c.2 ∙ f) in rw (← i, zero-add) (at_leg g l d k m (earlier k m h.earlier_clean) c.3))
       (leg_means s R g q (leg_at q k) (0 + k) d)
     where
+      same_fault : {x y : Refusal} → fault x ≡ fault y → x ≡ y
+      same_fault e = cc
+
       earlier : (k : ℕ) → k < q.count → ((j : ℕ) → j < k → first_fault (leg_checks R q (0 + j) (get_or (legs_of q) j no_leg)) ≡ clean)
           → (j : ℕ) → j < k → (part : ℕ) × LegFare R q (leg_at q j) part
       earlier k m h j l =
-          let f : first_fault (leg_checks R q (0 + j) (leg_at q j)) ≡ clean = rw (leg_is q j (omega arith)) at (h j l) in
+          let f : first_fault (leg_checks R q (0 + j) (leg_at q j)) ≡ clean = rw (leg_is R q j (omega arith)) at (h j l) in
           ⊎_elim (λ c. (part_of R q (leg_at q j), c.1)) (λ c. no_fault f c.2) (leg_means s R g q (leg_at q j) (0 + j) d)
 
-  by_rest : Good s R → InLimits q → CardsDiffer q → (why : Refusal) → first_fault rest ≡ fault why → Told why
-  by_rest g l d why e =
-      ⊎_elim (λ f. by_station g l d why f) (λ f. by_leg g l d (stations_are_right q f.0) why f.1) (append_fault station_faults leg_faults e)
-
-  by_cards : Good s R → in_limits q ≡ true → (why : Refusal) → first_fault (cards ∷ rest) ≡ fault why → Told why
+  by_cards : Good s R → in_limits q ≡ true → (why : Refusal) → first_fault (cards ∷ leg_faults) ≡ fault why → Told why
   by_cards g t why e =
       ⊎_elim (λ b. rw (← b.1) (card_twice g (limits_mean q t) (λ d. never (means_differ q d) (not-true (cards_differ (card_slots q)) b.0))))
-      (λ b. by_rest g (limits_mean q t) (differ_means q (not-false (cards_differ (card_slots q)) b.0)) why b.1)
-      (one_fault (not (cards_differ (card_slots q))) 17 0 0 rest e)
+      (λ b. by_leg g (limits_mean q t) (differ_means q (not-false (cards_differ (card_slots q)) b.0)) why b.1)
+      (one_fault (not (cards_differ (card_slots q))) 17 0 0 leg_faults e)
 
   by_price : Good s R → (why : Refusal) → first_fault (price_checks R q) ≡ fault why → Told why
   unfolding price_checks
   by_price g why e =
       ⊎_elim (λ b. rw (← b.1) (outside_limits g (λ l. never (means_limits q l) (not-true (in_limits q) b.0))))
       (λ b. by_cards g (not-false (in_limits q) b.0) why b.1)
-      (one_fault (not (in_limits q)) 11 0 0 (cards ∷ rest) e)
+      (one_fault (not (in_limits q)) 11 0 0 (cards ∷ leg_faults) e)
 
   -- with what that means;
   pub no_fare_means : (why : Refusal) → fare_of s q ≡ no_fare why → Told why
@@ -217,19 +197,19 @@ module _ (s : List ℕ) (q : Question) where
 
   legs_clean : Good s R → CardsDiffer q → (n : ℕ) → n ≤ q.count → ((k : ℕ) → k < n → (part : ℕ) × LegFare R q (leg_at q k) part)
       → (k : ℕ) → k < n → first_fault (leg_checks R q (0 + k) (get_or (legs_of q) k no_leg)) ≡ clean
-  legs_clean g d n m h k l = rw (leg_is q k (omega arith)) (let p = h k l in (means_priced s R g q (leg_at q k) (0 + k) d p.0 p.1).0)
+  legs_clean g d n m h k l = rw (leg_is R q k (omega arith)) (let p = h k l in (means_priced s R g q (leg_at q k) (0 + k) d p.0 p.1).0)
 
-  all_clean : Good s R → InLimits q → CardsDiffer q → StationsRight q → ((k : ℕ) → k < q.count → (part : ℕ) × LegFare R q (leg_at q k) part) → first_fault (fare_checks s q) ≡ clean
+  all_clean : Good s R → InLimits q → CardsDiffer q → ((k : ℕ) → k < q.count → (part : ℕ) × LegFare R q (leg_at q k) part) → first_fault (fare_checks s q) ≡ clean
   unfolding fare_checks price_checks
-  all_clean g l d r h =
+  all_clean g l d h =
       clean_append (checks s) (price_checks R q) (good_clean g)
-      (clean_one (not (in_limits q)) 11 0 0 (cards ∷ rest) (rw (means_limits q l))
-      (clean_one (not (cards_differ (card_slots q))) 17 0 0 rest (rw (means_differ q d))
-      (clean_append station_faults leg_faults (right_stations q r) (clean_each (leg_checks R q) no_leg 0 (legs_of q) (λ k m. legs_clean g d q.count (omega arith) h k (omega (arith, count_is q)))))))
+      (clean_one (not (in_limits q)) 11 0 0 (cards ∷ leg_faults) (rw (means_limits q l))
+      (clean_one (not (cards_differ (card_slots q))) 17 0 0 leg_faults (rw (means_differ q d))
+      (clean_each (leg_checks R q) no_leg 0 (legs_of q) (λ k m. legs_clean g d q.count (omega arith) h k (omega (arith, as_many R q))))))
 
   answered_by : (fare : ℕ) (parts : List ℕ) → IsFare s R q fare parts → fare_of s q ≡ record { outcome = Priced; fare = fare; parts = parts }
   answered_by fare parts f =
-      let c = all_clean f.good f.within_limits f.cards_apart f.stations_are_right (λ k l. (get_or parts k 0, f.leg_by_leg k l)) in
+      let c = all_clean f.good f.within_limits f.cards_apart (λ k l. (get_or parts k 0, f.leg_by_leg k l)) in
       let eight = eight_parts R q f.within_limits.count.1 in
       let same : parts ≡ parts_of R q = ext_get_or 0 parts (parts_of R q) (f.eight ∙ sym eight) (λ k l. part_alike f k) in
       clean_priced c ∙ (λ j. record { outcome = Priced; fare = sym (f.summed ∙ ap sum same) j; parts = sym same j })
@@ -248,30 +228,17 @@ module _ (s : List ℕ) (q : Question) where
   refused_by n p d (card_twice g l c) =
       fault_refused (refuse 17 0 0)
       (fault_append (checks s) (price_checks R q) ∙ rw (good_clean g, means_limits q l, refuted (cards_differ (card_slots q)) (λ e. c (differ_means q e))))
-  refused_by n p d (wrong_station g l c k m h {d = f} w) =
-      fault_refused (refuse 20 k f)
-      (fault_append (checks s) (price_checks R q)
-      ∙ rw (good_clean g, means_limits q l, means_differ q c)
-      (fault_append station_faults leg_faults
-      ∙ rw (fault_each station_checks no_leg 0 (legs_of q) (refuse 20 k f)
-      (record {
-        at = k;
-        inside = omega (arith, count_is q);
-        fails = rw (leg_is q k m, zero-add) (wrong_fault k (leg_at q k) f w);
-        earlier_clean = λ j i. station_clean q j (omega arith) (h j i);
-      }))))
-  refused_by n p d (at_leg g l c r k m h {d = f} t) =
+  refused_by n p d (at_leg g l c k m h {d = f} t) =
       fault_refused (refuse n k f)
       (fault_append (checks s) (price_checks R q)
       ∙ rw (good_clean g, means_limits q l, means_differ q c)
-      (after_clean station_faults leg_faults (right_stations q r)
-      ∙ (fault_each (leg_checks R q) no_leg 0 (legs_of q) (refuse n k f)
+      (fault_each (leg_checks R q) no_leg 0 (legs_of q) (refuse n k f)
       (record {
         at = k;
-        inside = omega (arith, count_is q);
-        fails = rw (leg_is q k m, zero-add) (means_turned s R g q (leg_at q k) k n f t);
+        inside = omega (arith, as_many R q);
+        fails = rw (leg_is R q k m, zero-add) (means_turned s R g q (leg_at q k) k n f t);
         earlier_clean = legs_clean g c k (omega arith) h;
-      }))))
+      })))
 
 pub means_fare : (s : List ℕ) (R : List Rec) (q : Question) (fare : ℕ) (parts : List ℕ) → IsFare s R q fare parts
     → fare_of s q ≡ record { outcome = Priced; fare = fare; parts = parts }

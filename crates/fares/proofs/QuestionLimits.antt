@@ -26,20 +26,12 @@ is_between lowest v highest h = rw (le-leb lowest v h.0, le-leb v highest h.1)
 leg_means : (leg : Leg) → leg_in_limits leg ≡ true → LegInLimits leg
 unfolding is_railway
 leg_means leg e =
-    let b = both_true (is_railway leg.railway) (leb leg.fare 999999 && (leb leg.from 999999 && leb leg.to 999999)) e in
-    let c = both_true (leb leg.fare 999999) (leb leg.from 999999 && leb leg.to 999999) b.1 in
-    let d = both_true (leb leg.from 999999) (leb leg.to 999999) c.1 in
-    record {
-      railway = in_range 1 leg.railway 9999 b.0;
-      fare = leb-true leg.fare 999999 c.0;
-      from = leb-true leg.from 999999 d.0;
-      to = leb-true leg.to 999999 d.1;
-    }
+    let b = both_true (is_railway leg.railway) (leb leg.fare 999999) e in
+    record { railway = in_range 1 leg.railway 9999 b.0; fare = leb-true leg.fare 999999 b.1 }
 
 means_leg : (leg : Leg) → LegInLimits leg → leg_in_limits leg ≡ true
 unfolding is_railway
-means_leg leg h =
-    rw (is_between 1 leg.railway 9999 h.railway, le-leb leg.fare 999999 h.fare, le-leb leg.from 999999 h.from, le-leb leg.to 999999 h.to)
+means_leg leg h = rw (is_between 1 leg.railway 9999 h.railway, le-leb leg.fare 999999 h.fare)
 
 -- no more than eight legs
 pub trip_few : (offer day persons count : ℕ) → trip_in_limits offer day persons count ≡ true → count ≤ 8
@@ -50,10 +42,10 @@ trip_few offer day persons count e =
     (in_range 1 count 8 (both_true (between 1 99 persons) (between 1 8 count) b.1).1).1
 
 module _ (q : Question) where
-  pub leg_is : (k : ℕ) → k < q.count → get_or (legs_of q) k no_leg ≡ leg_at q k
+  leg_is : (k : ℕ) → k < q.count → get_or (legs_of q) k no_leg ≡ leg_at q k
   leg_is k l = first_at no_leg q.count q.legs k l
 
-  pub count_is : length (legs_of q) ≡ q.count
+  count_is : length (legs_of q) ≡ q.count
   count_is = first_length no_leg q.count q.legs
 
   -- what is asked for besides cards and legs, then the cards, then the legs

@@ -9,17 +9,16 @@ use Rattle.fares.specs.Rounding.{unit}
 use Rattle.fares.specs.Reductions.{part_bound, greatest_fare}
 use Rattle.fares.specs.Fare.{no_fare, fare_of}
 use Rattle.bundle.specs.Samples.{period, grant, conditions_in, conditions, named, card_name, card_in, card_with, card}
-use Rattle.fares.specs.Samples.{between, leg, ticket}
+use Rattle.fares.specs.Samples.{leg, ticket}
 use Rattle.fares.specs.declared.Question.{Question}
 use Rattle.fares.specs.declared.Pricing.TheVariants.{Priced}
 
--- a plain fare at a discount is so many hundred-thousandths of a cent; a question has this fare and these parts, by a bundle, or is refused by this number, or
--- for a station of this leg, 0 from or 1 to; a part by so many cards is at most this, eight of them are at most this, and so is any fare; a number YYYYMMDD is a day, or is none
+-- a plain fare at a discount is so many hundred-thousandths of a cent; a question has this fare and these parts, by a bundle, or is refused by this number;
+-- a part by so many cards is at most this, eight of them are at most this, and so is any fare; a number YYYYMMDD is a day, or is none
 pub data Figure : Type 0 where
   exact : (fare discount amount : ℕ) → Figure
   asked : (bundle : List ℕ) → Question → (fare : ℕ) (parts : List ℕ) → Figure
   turned_away : (bundle : List ℕ) → Question → (number : ℕ) → Figure
-  mistyped : (bundle : List ℕ) → Question → (leg end : ℕ) → Figure
   bound : (cards cents : ℕ) → Figure
   eight_parts : (cards cents : ℕ) → Figure
   greatest_fare_figure : (cents : ℕ) → Figure
@@ -31,7 +30,6 @@ abbrev pub Says : Figure → Type 0
 Says (exact fare discount amount) = fare * (unit - discount) ≡ amount
 Says (asked bundle q fare parts) = fare_of bundle q ≡ record { outcome = Priced; fare = fare; parts = first_of 0 8 parts }
 Says (turned_away bundle q number) = fare_of bundle q ≡ no_fare (refuse number 0 0)
-Says (mistyped bundle q leg end) = fare_of bundle q ≡ no_fare (refuse 20 leg end)
 Says (bound cards cents) = part_bound cards ≡ cents
 Says (eight_parts cards cents) = 8 * part_bound cards ≡ cents
 Says (greatest_fare_figure cents) = greatest_fare ≡ cents
@@ -49,10 +47,6 @@ cards fare records asks cents = asked (conditions 0 byte_Y (grant 0 byte_N 0) ++
 -- a CO of a railway of its own, in a part of the year, by its discount
 abbrev pub own : ℕ → ℕ → ℕ → List ℕ
 own first last discount = conditions_in (period first last) 1185 byte_N (grant discount byte_N 0)
-
--- one CO for all railways that takes nothing
-abbrev pub everywhere : List ℕ
-everywhere = conditions 0 byte_N (grant 0 byte_N 0)
 
 abbrev pub figures : List Figure
 figures =
@@ -117,22 +111,6 @@ figures =
     turned_away [] (ticket 1 (7 ∷ 7 ∷ []) 1 (leg 1185 1010 ∷ [])) 17 ∷
     turned_away [] (ticket 1 (0 ∷ 7 ∷ []) 1 (leg 1185 1010 ∷ [])) 11 ∷
     turned_away [] (ticket 1 (1000 ∷ 1000 ∷ []) 1 (leg 1185 1010 ∷ [])) 11 ∷
-    -- two legs from 12345-5 by 23456-7 to 34567-8; a station may be both ends of a leg, and 00000-0 is one; a digit wrong, at each end of each leg
-    asked everywhere (ticket 1 [] 2 (between 123455 234567 1185 1010 ∷ between 234567 345678 1181 500 ∷ [])) 1510 (1010 ∷ 500 ∷ []) ∷
-    asked everywhere (ticket 1 [] 1 (between 123455 123455 1185 1010 ∷ [])) 1010 (1010 ∷ []) ∷
-    asked everywhere (ticket 1 [] 1 (between 0 123455 1185 1010 ∷ [])) 1010 (1010 ∷ []) ∷
-    mistyped everywhere (ticket 1 [] 2 (between 123456 234567 1185 1010 ∷ between 234567 345678 1181 500 ∷ [])) 0 0 ∷
-    mistyped everywhere (ticket 1 [] 2 (between 123455 239567 1185 1010 ∷ between 234567 345678 1181 500 ∷ [])) 0 1 ∷
-    mistyped everywhere (ticket 1 [] 2 (between 123455 234567 1185 1010 ∷ between 134567 345678 1181 500 ∷ [])) 1 0 ∷
-    mistyped everywhere (ticket 1 [] 2 (between 123455 234567 1185 1010 ∷ between 234567 345688 1181 500 ∷ [])) 1 1 ∷
-    -- from before to, and leg by leg; before a leg that has no CO, also an earlier one; after 11, here of another leg's station of seven digits, and 17
-    mistyped everywhere (ticket 1 [] 2 (between 123455 1 1185 1010 ∷ between 2 3 1181 500 ∷ [])) 0 1 ∷
-    mistyped everywhere (ticket 1 [] 1 (between 1 2 1185 1010 ∷ [])) 0 0 ∷
-    mistyped [] (ticket 1 [] 2 (leg 1185 1010 ∷ between 0 1 1181 500 ∷ [])) 1 1 ∷
-    turned_away everywhere (ticket 1 [] 2 (between 1 0 1185 1010 ∷ between 0 3702958 1181 500 ∷ [])) 11 ∷
-    turned_away everywhere (ticket 1 (7 ∷ 7 ∷ []) 1 (between 1 0 1185 1010 ∷ [])) 17 ∷
-    -- a leg that is not asked for has any
-    asked everywhere (ticket 1 [] 1 (leg 1185 1010 ∷ between 1 3702958 1181 500 ∷ [])) 1010 (1010 ∷ []) ∷
     bound 0 99197505 ∷
     bound 1 99197505 ∷
     bound 2 99296307 ∷

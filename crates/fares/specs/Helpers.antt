@@ -3,14 +3,14 @@
 -- Assumes nothing.
 use Rattle.std.specs.Prelude.{ℕ, ◌-◌, Bool, ◌&&◌, List, ◌++◌, map, leb, length, take, get_or, replicate}
 use Rattle.common.specs.Lists.{only}
-use Rattle.common.specs.Checks.{Finding, unless, first_fault, each_from}
+use Rattle.common.specs.Checks.{Finding, unless, first_fault}
 use Rattle.layout.specs.Dates.{is_day}
 use Rattle.layout.specs.declared.fields.Grant.{Grant}
 use Rattle.bundle.specs.Records.{Rec, records_of}
 use Rattle.bundle.specs.Helpers.{places_of, body_at}
 use Rattle.choice.specs.Helpers.{at_place}
 use Rattle.choice.specs.declared.Choice.{Choice}
-use Rattle.fares.specs.Question.{between, legs_of}
+use Rattle.fares.specs.Question.{between}
 use Rattle.fares.specs.Reductions.{card_grants, reduce_by}
 use Rattle.fares.specs.Cards.{is_alone, rank_of}
 use Rattle.fares.specs.Legs.{conditions_for, body_of, applied_for, condition_checks, leg_checks, part_by, part_of}
@@ -20,8 +20,6 @@ use Rattle.fares.specs.declared.Question.{Question}
 use Rattle.fares.specs.declared.Quote.{Quote}
 use Rattle.fares.specs.declared.legs.Priced.{Priced}
 use Rattle.fares.specs.declared.legs.Priced.TheVariants.{Part, Refused}
-use Rattle.fares.specs.declared.stations.Stations.{Stations}
-use Rattle.fares.specs.declared.stations.Stations.TheVariants.{Right, Refused as Wrong}
 use Rattle.fares.specs.declared.records.Cards.{Cards}
 use Rattle.fares.specs.declared.records.LegRecords.{LegRecords}
 use Rattle.fares.specs.declared.cards.Step.{Step}
@@ -91,13 +89,6 @@ answer_of R q k leg = answered (first_fault (leg_checks R q k leg)) (part_of R q
 unfoldable pub answer_by : Question → ℕ → Leg → List ℕ → List (List ℕ) → Priced
 answer_by q k leg co cards = answered (first_fault (condition_checks q k co)) (part_by q leg co cards)
 
--- what is found of the stations
-abbrev pub judged : Finding → Stations
-judged f = unless Wrong f Right
-
--- the fare of a question that was found right, and any, from the records of an accepted bundle
-unfoldable pub legs_priced : List Rec → Question → Quote
-legs_priced R q = quoted (first_fault (each_from 0 (leg_checks R q) (legs_of q))) (parts_of R q)
-
+-- the fare from the records of an accepted bundle
 unfoldable pub price_of : List Rec → Question → Quote
 price_of R q = quoted (first_fault (price_checks R q)) (parts_of R q)

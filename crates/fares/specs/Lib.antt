@@ -1,12 +1,11 @@
 pub mod Question
-pub mod Stations
 pub mod Rounding
 pub mod Reductions
 pub mod Cards
 pub mod Legs
 pub mod Fare
 pub mod Meaning
-pub mod Base
+pub mod OneCard
 pub mod Samples
 pub mod Figures
 pub mod Helpers

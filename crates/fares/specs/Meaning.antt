@@ -1,8 +1,8 @@
--- WHAT A FARE MEANS (document 01, 'Pricing', and document 02, R-1, R-2 and R-14): which records count for a leg, by their fields; each amount from the one before
+-- WHAT A FARE MEANS (document 01, 'Pricing', and document 02, R-1 and R-2): which records count for a leg, by their fields; each amount from the one before
 -- it; the part and the fare. There is no search, no sort and no order of trying in it.
 -- Assumes nothing.
-use Rattle.std.specs.Prelude.{ℕ, ◌-◌, ◌*◌, ◌≤◌, ◌<◌, ◌≡◌, false, cond, List, [], ◌∷◌, ◌++◌, map, ◌⊎◌, eqb, length, get_or}
-use Rattle.common.specs.Lists.{any, sum, up_to}
+use Rattle.std.specs.Prelude.{ℕ, ◌-◌, ◌*◌, ◌≤◌, ◌<◌, ◌≡◌, false, List, [], ◌∷◌, ◌++◌, ◌⊎◌, eqb, length, get_or}
+use Rattle.common.specs.Lists.{any, sum}
 use Rattle.layout.specs.Bytes.{byte_N, byte_Y}
 use Rattle.layout.specs.Calendar.{RealDay}
 use Rattle.layout.specs.Layout.{CO, AR}
@@ -12,18 +12,15 @@ use Rattle.choice.specs.Chosen.{ForEither, Uses}
 use Rattle.bundle.specs.Faults.{Fault}
 use Rattle.bundle.specs.Meaning.{record_at, HoldsDay, Good}
 use Rattle.fares.specs.Question.{no_leg}
-use Rattle.fares.specs.Stations.{RightStations, WrongStation}
 use Rattle.fares.specs.Rounding.{IsRounded}
 use Rattle.fares.specs.declared.Leg.{Leg}
 use Rattle.fares.specs.declared.Question.{Question}
 
 -- THE LIMITS OF A QUESTION: "an offer 1-99,999, a real date as day, persons 1-99, a card 0-999 (0 = none), and one to eight legs, each with a railway
--- 1-9999 and a plain fare per person of 0-999,999 cents"; two stations of six digits; of its four slots for cards those that are used stand first
+-- 1-9999 and a plain fare per person of 0-999,999 cents"; of its four slots for cards those that are used stand first
 pub record LegInLimits (leg : Leg) : Type 0 where
   pub railway : (1 ≤ leg.railway) × (leg.railway ≤ 9999)
   pub fare : leg.fare ≤ 999999
-  pub from : leg.from ≤ 999999
-  pub to : leg.to ≤ 999999
 
 abbrev pub leg_at : Question → ℕ → Leg
 leg_at q k = get_or q.legs k no_leg
@@ -43,25 +40,6 @@ pub record InLimits (q : Question) : Type 0 where
 -- NO CARD IS GIVEN TWICE: slots that have the same are not used
 abbrev pub CardsDiffer : Question → Type 0
 CardsDiffer q = (j k : ℕ) → j < k → k < 4 → card_at q j ≡ card_at q k → card_at q j ≡ 0
-
--- EACH STATION IS RIGHT of the legs that are asked for
-abbrev pub StationsRight : Question → Type 0
-StationsRight q = (k : ℕ) → k < q.count → RightStations (leg_at q k)
-
--- a question with another leg k; a leg with another station typed; and a question without stations
-abbrev pub with_leg : Question → ℕ → Leg → Question
-with_leg q k leg =
-    record { offer = q.offer; day = q.day; persons = q.persons; cards = q.cards; count = q.count; legs = up_to (λ j. cond (eqb j k) leg (leg_at q j)) 8 }
-
-abbrev pub typed_from : Leg → ℕ → Leg
-typed_from leg typed = record { railway = leg.railway; fare = leg.fare; from = typed; to = leg.to }
-
-abbrev pub typed_to : Leg → ℕ → Leg
-typed_to leg typed = record { railway = leg.railway; fare = leg.fare; from = leg.from; to = typed }
-
-abbrev pub without_stations : Question → Question
-without_stations q =
-    record { offer = q.offer; day = q.day; persons = q.persons; cards = q.cards; count = q.count; legs = map (λ leg. typed_to (typed_from leg 0) 0) q.legs }
 
 -- a question with other cards; and cards that are the same in any order: each card given in the first stands in a slot of the second
 abbrev pub with_cards : Question → List ℕ → Question
@@ -175,19 +153,15 @@ pub record IsFare (bundle : List ℕ) (R : List Rec) (q : Question) (fare : ℕ)
   pub good : Good bundle R
   pub within_limits : InLimits q
   pub cards_apart : CardsDiffer q
-  pub stations_are_right : StationsRight q
   pub leg_by_leg : (k : ℕ) → k < q.count → LegFare R q (leg_at q k) (get_or parts k 0)
   pub none_beyond : (k : ℕ) → q.count ≤ k → get_or parts k 0 ≡ 0
   pub eight : length parts ≡ 8
   pub summed : fare ≡ sum parts
 
--- NO FARE, by number, place and detail: the bundle has a fault; or the question is outside its limits, or gives a card twice; or leg k has a wrong station, and no
--- leg before it; or each station is right, leg k is turned away, and no leg before it
+-- NO FARE, by number, place and detail: the bundle has a fault; or the question is outside its limits, or gives a card twice; or leg k is turned away, and no leg before it
 pub data NoFare (bundle : List ℕ) (R : List Rec) (rest : List ℕ) (q : Question) : ℕ → ℕ → ℕ → Type 0 where
   faulty : {n p d : ℕ} → Fault bundle R rest n p d → NoFare bundle R rest q n p d
   outside_limits : Good bundle R → (InLimits q → ⊥) → NoFare bundle R rest q 11 0 0
   card_twice : Good bundle R → InLimits q → (CardsDiffer q → ⊥) → NoFare bundle R rest q 17 0 0
-  wrong_station : Good bundle R → InLimits q → CardsDiffer q → (k : ℕ) → k < q.count → ((j : ℕ) → j < k → RightStations (leg_at q j))
-      → {d : ℕ} → WrongStation (leg_at q k) d → NoFare bundle R rest q 20 k d
-  at_leg : Good bundle R → InLimits q → CardsDiffer q → StationsRight q → (k : ℕ) → k < q.count → ((j : ℕ) → j < k → (part : ℕ) × LegFare R q (leg_at q j) part)
+  at_leg : Good bundle R → InLimits q → CardsDiffer q → (k : ℕ) → k < q.count → ((j : ℕ) → j < k → (part : ℕ) × LegFare R q (leg_at q j) part)
       → {n d : ℕ} → TurnedAway R q (leg_at q k) n d → NoFare bundle R rest q n k d

@@ -1,4 +1,4 @@
--- The limits of a question (document 01, 'Pricing'), its cards and its stations (document 02, R-1 and R-14).
+-- The limits of a question (document 01, 'Pricing'), and its cards (document 02, R-1).
 -- Assumes nothing.
 use Rattle.std.specs.Prelude.{ℕ, Bool, true, cond, not, ◌&&◌, List, [], ◌∷◌, eqb, leb}
 use Rattle.common.specs.Lists.{every, any, only, first_of}
@@ -10,12 +10,12 @@ use Rattle.fares.specs.declared.Question.{Question}
 abbrev pub between : ℕ → ℕ → ℕ → Bool
 between lowest highest v = leb lowest v && leb v highest
 
--- "each with a railway 1-9999 and a plain fare per person of 0-999,999 cents", and two stations of six digits
+-- "each with a railway 1-9999 and a plain fare per person of 0-999,999 cents"
 abbrev pub leg_in_limits : Leg → Bool
-leg_in_limits leg = is_railway leg.railway && (leb leg.fare 999999 && (leb leg.from 999999 && leb leg.to 999999))
+leg_in_limits leg = is_railway leg.railway && leb leg.fare 999999
 
 abbrev pub no_leg : Leg
-no_leg = record { railway = 0; fare = 0; from = 0; to = 0 }
+no_leg = record { railway = 0; fare = 0 }
 
 -- the legs that are asked for: slots beyond the leg count are not looked at
 abbrev pub legs_of : Question → List Leg
@@ -41,19 +41,16 @@ unfoldable pub cards_differ : List ℕ → Bool
 cards_differ [] = true
 cards_differ (c ∷ cs) = not (is_given c && any (eqb c) cs) && cards_differ cs
 
--- "an offer 1-99,999, a real date as day, persons 1-99, a card 0-999 (0 = none), and one to eight legs", by the limits of a leg
-abbrev pub limits_by : (Leg → Bool) → Question → List Bool
-limits_by legFits q =
+-- "an offer 1-99,999, a real date as day, persons 1-99, a card 0-999 (0 = none), and one to eight legs"
+abbrev pub limits_of : Question → List Bool
+limits_of q =
     between 1 99999 q.offer ∷
     is_day q.day ∷
     between 1 99 q.persons ∷
     cards_in_limits (card_slots q) ∷
     between 1 8 q.count ∷
-    every legFits (legs_of q) ∷
+    every leg_in_limits (legs_of q) ∷
     []
-
-abbrev pub limits_of : Question → List Bool
-limits_of q = limits_by leg_in_limits q
 
 unfoldable pub in_limits : Question → Bool
 in_limits q = every (λ b. b) (limits_of q)

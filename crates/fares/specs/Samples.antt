@@ -4,14 +4,9 @@ use Rattle.std.specs.Prelude.{ℕ, List}
 use Rattle.fares.specs.declared.Leg.{Leg}
 use Rattle.fares.specs.declared.Question.{Question}
 
--- a leg between stations, and one without
-abbrev pub between : ℕ → ℕ → ℕ → ℕ → Leg
-between from to railway fare = record { railway = railway; fare = fare; from = from; to = to }
-
-abbrev pub leg : ℕ → ℕ → Leg
-leg railway fare = between 0 0 railway fare
-
 -- persons, cards, how many legs, and these
+abbrev pub leg : ℕ → ℕ → Leg
+leg railway fare = record { railway = railway; fare = fare }
 
 abbrev pub ticket : ℕ → List ℕ → ℕ → List Leg → Question
 ticket persons cards count legs = record { offer = 42; day = 20240615; persons = persons; cards = cards; count = count; legs = legs }

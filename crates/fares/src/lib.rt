@@ -1,9 +1,8 @@
 // The fare of a ticket, leg by leg.
-ghost use Rattle.std.specs.Prelude.{◌≡◌, true};
+ghost use Rattle.std.specs.Prelude.{◌≡◌};
 ghost use Rattle.bundle.specs.Records.{records_of};
-ghost use Rattle.fares.specs.Question.{in_limits};
 ghost use Rattle.fares.specs.Fare.{no_fare, fare_of};
-ghost use Rattle.fares.specs.Helpers.{legs_priced, price_of};
+ghost use Rattle.fares.specs.Helpers.{price_of};
 
 mod cards;
 mod legs;
@@ -11,16 +10,13 @@ pub mod limits;
 mod records;
 mod reductions;
 mod rounding;
-pub mod stations;
 
-// A leg: its railway, the plain fare per person in cents, and its two stations, each as it is typed: five digits and their check digit.
+// A leg: its railway, and the plain fare per person in cents.
 #[repr(C)]
 #[derive(Drop)]
 pub struct Leg {
     pub railway: u32,
     pub fare: u32,
-    pub from: u32,
-    pub to: u32,
 }
 
 // What is asked: `day` is a number YYYYMMDD, a card 0 is none, and legs from `count` on are not looked at.
@@ -60,11 +56,17 @@ fn refused(why: common::Refusal) -> Quote
     }
 }
 
-// The fare of a question that was found right, leg by leg.
-fn price_legs(bundle: &[u8], q: Question) -> Quote
-    requires { in_limits q ≡ true }
-    ensures { result ≡ legs_priced (records_of bundle.now) q }
+// The fare from a bundle that was accepted.
+fn price(bundle: &[u8], q: Question) -> Quote
+    ensures { result ≡ price_of (records_of bundle.now) q }
 {
+    if !limits::in_limits(q) {
+        return refused(common::refuse(11, 0, 0));
+    }
+    let cards = q.cards;
+    if !limits::cards_differ(cards) {
+        return refused(common::refuse(17, 0, 0));
+    }
     let legs = q.legs;
     let count = q.count as usize;
     let mut parts = [0u32; 8];
@@ -91,26 +93,7 @@ fn price_legs(bundle: &[u8], q: Question) -> Quote
     }
 }
 
-// The fare from a bundle that was accepted: the question's limits, its cards and its stations, then the legs.
-fn price(bundle: &[u8], q: Question) -> Quote
-    ensures { result ≡ price_of (records_of bundle.now) q }
-{
-    if !limits::in_limits(q) {
-        return refused(common::refuse(11, 0, 0));
-    }
-    let cards = q.cards;
-    if !limits::cards_differ(cards) {
-        return refused(common::refuse(17, 0, 0));
-    }
-    let legs = q.legs;
-    let judged = stations::judge(legs, q.count as usize);
-    match judged {
-        stations::Stations::Refused(why) => refused(why),
-        stations::Stations::Right => price_legs(bundle, q),
-    }
-}
-
-// The fare of a ticket: the bundle's verdict, then the price.
+// The fare of a ticket: the bundle's verdict, the question's limits, the legs from the first.
 pub fn fare(bundle: &[u8], q: Question) -> Quote
     ensures { result ≡ fare_of bundle.now q }
 {

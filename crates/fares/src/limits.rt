@@ -22,13 +22,7 @@ pub fn leg_in_limits(leg: Leg) -> bool
     if !layout::company::is_railway(leg.railway) {
         return false;
     }
-    if 999999 < leg.fare {
-        return false;
-    }
-    if 999999 < leg.from {
-        return false;
-    }
-    leg.to <= 999999
+    leg.fare <= 999999
 }
 
 fn legs_in_limits(legs: [Leg; 8], count: usize) -> bool

@@ -19,7 +19,6 @@ use Rattle.bundle.specs.Verdict.{field_checks, end_checks, first_pass, record_ch
 use Rattle.bundle.specs.declared.Judgement.{Judgement}
 use Rattle.bundle.specs.declared.Judgement.TheVariants.{Accepted, Refused}
 use Rattle.fares.specs.Question.{legs_of}
-use Rattle.fares.specs.Stations.{station_checks}
 use Rattle.fares.specs.Legs.{leg_checks}
 use Rattle.fares.specs.Fare.{parts_of, price_checks, fare_checks, no_fare, priced, fare_of}
 use Rattle.fares.specs.declared.Question.{Question}
@@ -146,9 +145,8 @@ module _ (s : List ℕ) where
   unfolding fare_checks price_checks every any
   fare_among q ns =
       let all = fare_numbers ++ ns in
-      append_tells all (checks s) (price_checks (records_of s) q) (verdict_among (11 ∷ 17 ∷ 20 ∷ 12 ∷ 13 ∷ 14 ∷ 15 ∷ ns))
-      (append_tells all (each_from 0 station_checks (legs_of q)) (each_from 0 (leg_checks (records_of s) q) (legs_of q))
-      (each_tells all station_checks (λ i leg. refl) 0 (legs_of q)) (each_tells all (leg_checks (records_of s) q) (λ i leg. refl) 0 (legs_of q)))
+      append_tells all (checks s) (price_checks (records_of s) q) (verdict_among (11 ∷ 17 ∷ 12 ∷ 13 ∷ 14 ∷ 15 ∷ ns))
+      (each_tells all (leg_checks (records_of s) q) (λ i leg. refl) 0 (legs_of q))
 
   fare_numbers_lem : (q : Question) → TellsOf fare_numbers (fare_checks s q)
   fare_numbers_lem q = fare_among q []

@@ -52,7 +52,7 @@ use Rattle.fares.specs.Fare.{fare_of}
 use Rattle.fares.specs.Question.{between, card_slots, cards_of, cards_differ, in_limits}
 use Rattle.fares.specs.Reductions.{greater, part_bound, greatest_part}
 use Rattle.fares.specs.Meaning.{card_at, with_cards, SameCards, InLimits, CardsDiffer, Applies, AllTogether, Permitted, After, AfterCards, LegFare, IsFare, NoFare}
-use Rattle.fares.specs.Base.{OfTheBase, base_fare}
+use Rattle.fares.specs.OneCard.{OneCard, base_fare}
 use Rattle.fares.specs.Figures as fares
 use Rattle.fares.specs.declared.Leg.{Leg}
 use Rattle.fares.specs.declared.Question.{Question}
@@ -65,7 +65,7 @@ use Rattle.fares.proofs.PermittedMeaning.{not_above, by_one, one_amount, leaves_
 use Rattle.fares.proofs.QuestionLimits.{limits_mean, means_limits}
 use Rattle.fares.proofs.CardSlots.{differ_means, means_differ}
 use Rattle.fares.proofs.Meaning.{fare_means, means_fare, no_fare_means, means_no_fare, part_bounded, fare_bounded}
-use Rattle.fares.proofs.OfTheBase.{fare_is}
+use Rattle.fares.proofs.OneCard.{fare_is}
 use Rattle.fares.proofs.CardOrder.{any_order}
 use Rattle.fares.proofs.Computed.{fare_figures_hold}
 use Rattle.book.specs.Words.{Entry, cards_at, count_of, entry_at, entries, question_of}
@@ -74,16 +74,16 @@ use Rattle.book.specs.Meaning.{asked_word, cards_in, Sound, Holds, HeldNowhere}
 use Rattle.book.specs.Places.{given, Places, Says, Kept}
 use Rattle.book.specs.SameQuestion.{SameQuestion}
 use Rattle.book.specs.Sound.{sound_words}
-use Rattle.book.specs.Base.{PlainBook, BaseBook, plain_sound, base_sound}
+use Rattle.book.specs.OneCard.{OneCardBook, base_sound}
 use Rattle.book.proofs.BookMeaning.{sound_means, means_sound}
 use Rattle.book.proofs.SoundBook.{is_sound, sound_is}
 use Rattle.book.proofs.AmountsAreDue.{balance_due, total_due}
 use Rattle.book.proofs.TotalIsSum.{total_is_sum}
-use Rattle.book.proofs.OfTheBase.{base_means, means_base, plain_means, means_plain}
+use Rattle.book.proofs.OneCard.{base_means, means_base}
 use Rattle.book.proofs.Places.{the_places, entry_says, book_kept, question_cards, entry_cards}
 use Rattle.sales.specs.Sales.{sale_answer, sale_words, cancel_answer, cancel_words}
 use Rattle.sales.specs.Balances.{balance_answer, total_answer}
-use Rattle.sales.specs.Base.{BaseOps, base_after, base_sale, base_sale_words, base_cancel, base_cancel_words, base_balance, base_total, plain_balance, plain_total}
+use Rattle.sales.specs.OneCard.{OneCardOps, base_after, base_sale, base_sale_words, base_cancel, base_cancel_words, base_balance, base_total}
 use Rattle.sales.specs.History.{Number, Op, sale, empty_book, after, cancelled_in, booked_by, owed, is_in, is_number}
 use Rattle.sales.proofs.BalanceIsOwed.{stays_sound, balance_told, total_told}
 use Rattle.sales.proofs.InAnyBook.{book_balance, no_railway, book_total, sale_without_number, cancel_without_number, same_sale, other_sale, known_cancel, unknown_cancel, sale_when_full, sale_booked, sale_refused}
@@ -93,8 +93,8 @@ use Rattle.sales.proofs.Computed.{the_day}
 use Rattle.sales.proofs.Unsound.{unsound_sale, unsound_cancel, unsound_balance, unsound_total}
 use Rattle.sales.proofs.SentFirst.{always_meant, unknown_is_told, full_is_told, first_is_booked, first_is_refused}
 use Rattle.sales.proofs.SentAgain.{told_first, refused_other, nothing_changes, cancel_told}
-use Rattle.sales.proofs.OfTheBase.{same_sale as sold-as-it-was, same_sale_words, same_cancel, same_cancel_words, same_balance, same_total, plain_balance_lem, plain_total_lem}
-use Rattle.sales.proofs.OfTheBaseHistory.{same_after, empty_before}
+use Rattle.sales.proofs.OneCard.{same_sale as sold-as-it-was, same_sale_words, same_cancel, same_cancel_words, same_balance, same_total}
+use Rattle.sales.proofs.OneCardHistory.{same_after, empty_before}
 use Rattle.sales.proofs.AnswersByCase.{not_booked_stays, not_cancelled_stays}
 use Rattle.offers.specs.Answers.{Told, answers, refuses, verdict_tells, pricing_tells, fare_tells, booked, already_booked, cancelled, already_cancelled, outcome_tells, receipt_tells, sum_tells}
 use Rattle.offers.proofs.Orders.{told_accepted, told_refused, told_priced, told_no_fare, told_booked, first_parts, booked_told, cancelled_told}
@@ -261,8 +261,8 @@ the_limits_of_a_question q = (limits_mean q, means_limits q)
 pub the_cards_of_a_question_differ : (q : Question) → (cards_differ (card_slots q) ≡ true) ↔ CardsDiffer q
 the_cards_of_a_question_differ q = (differ_means q, means_differ q)
 
--- A fare is refused only for a fault of the bundle, a question outside its limits (11), with a card given twice (17) or a station whose check digit is wrong (20),
--- or the first leg that has no CO (12), none that is valid (13), other persons (14) or a condition unread (15); and if that is so.
+-- A fare is refused only for a fault of the bundle, a question outside its limits (11) or with a card given twice (17), or the first leg that has no CO (12), none that is valid (13), other persons (14)
+-- or a condition unread (15); and if that is so.
 pub a_refused_fare_says_why : (bundle : List ℕ) (q : Question) (why : Refusal) (us : List ℕ) → fare_tells (fare_of bundle q) ≡ refuses why us
     → NoFare bundle (records_of bundle) (rest_of bundle) q why.number why.place why.detail
 a_refused_fare_says_why bundle q why us e = no_fare_means bundle q why (told_no_fare bundle q why us e)
@@ -541,40 +541,40 @@ module _ (first : List Op) (n : Number) (bundle : List ℕ) (q : Question) (more
       go true = refl
       go false = refl
 
--- AS IT WAS. A question with one card or none, and no station, has the fare, or the refusal, that it had before a question could carry more.
-pub a_question_of_the_base_is_priced_as_it_was : (bundle : List ℕ) (q : Question) → OfTheBase q → fare_of bundle q ≡ base_fare bundle q
-a_question_of_the_base_is_priced_as_it_was bundle q o = fare_is q o bundle
+-- SEVERAL CARDS. A question with one card or none has the fare, or the refusal, that it had before a question could carry several.
+pub one_card_is_priced_as_it_was : (bundle : List ℕ) (q : Question) → OneCard q → fare_of bundle q ≡ base_fare bundle q
+one_card_is_priced_as_it_was bundle q o = fare_is q o bundle
 
--- Over a book whose sales are such, sound or not, each call on the book answers such a question as it did, and leaves the book that it left.
-module _ (book : List ℕ) (base : BaseBook book) where
+-- Over a book whose sales have one card or none, sound or not, each call on the book answers such a question as it did, and leaves the book that it left.
+module _ (book : List ℕ) (one : OneCardBook book) where
   module _ (till sequence : ℕ) where
-    pub it_is_sold_as_it_was : (bundle : List ℕ) (q : Question) → OfTheBase q → sale_answer book till sequence bundle q ≡ base_sale book till sequence bundle q
-    it_is_sold_as_it_was = sold-as-it-was book base till sequence
+    pub one_card_is_sold_as_it_was : (bundle : List ℕ) (q : Question) → OneCard q → sale_answer book till sequence bundle q ≡ base_sale book till sequence bundle q
+    one_card_is_sold_as_it_was = sold-as-it-was book one till sequence
 
-    pub its_sale_leaves_the_book_that_it_left : (bundle : List ℕ) (q : Question) → OfTheBase q → sale_words book till sequence bundle q ≡ base_sale_words book till sequence bundle q
-    its_sale_leaves_the_book_that_it_left = same_sale_words book base till sequence
+    pub its_sale_leaves_the_book_that_it_left : (bundle : List ℕ) (q : Question) → OneCard q → sale_words book till sequence bundle q ≡ base_sale_words book till sequence bundle q
+    its_sale_leaves_the_book_that_it_left = same_sale_words book one till sequence
 
     pub a_cancellation_is_told_as_it_was : cancel_answer book till sequence ≡ base_cancel book till sequence
-    a_cancellation_is_told_as_it_was = same_cancel book base till sequence
+    a_cancellation_is_told_as_it_was = same_cancel book one till sequence
 
     pub a_cancellation_leaves_the_book_that_it_left : cancel_words book till sequence ≡ base_cancel_words book till sequence
-    a_cancellation_leaves_the_book_that_it_left = same_cancel_words book base till sequence
+    a_cancellation_leaves_the_book_that_it_left = same_cancel_words book one till sequence
 
   pub a_balance_is_told_as_it_was : (railway : ℕ) → balance_answer book railway ≡ base_balance book railway
-  a_balance_is_told_as_it_was = same_balance book base
+  a_balance_is_told_as_it_was = same_balance book one
 
   pub the_total_is_told_as_it_was : total_answer book ≡ base_total book
-  the_total_is_told_as_it_was = same_total book base
+  the_total_is_told_as_it_was = same_total book one
 
--- A book was sound before exactly if it is sound and its sales have one card or none, and no station; so a book stored then is sound as it stands, and owes the same.
-pub a_book_sound_before : (book : List ℕ) → (base_sound book ≡ true) ↔ (Sound book × BaseBook book)
+-- A book was sound before exactly if it is sound and its sales have one card or none; so a book stored then is sound as it stands, and owes the same.
+pub a_book_sound_before : (book : List ℕ) → (base_sound book ≡ true) ↔ (Sound book × OneCardBook book)
 a_book_sound_before book = (base_means book, means_base book)
 
 module _ (book : List ℕ) (stored : base_sound book ≡ true) where
   pub a_stored_book_is_sound : Sound book
   a_stored_book_is_sound = (base_means book stored).0
 
-  -- and stays so, also with sales of several cards and with stations;
+  -- and stays so, also with sales of several cards;
   pub a_stored_book_stays_sound : (ops : List Op) → Sound (after book ops)
   a_stored_book_stays_sound = a_sound_book_stays_sound book a_stored_book_is_sound
 
@@ -584,24 +584,12 @@ module _ (book : List ℕ) (stored : base_sound book ≡ true) where
   pub a_stored_book_owes_the_same_in_all : total_answer book ≡ base_total book
   a_stored_book_owes_the_same_in_all = same_total book (base_means book stored).1
 
-  -- However many sales of such questions, and cancellations, follow, it is word for word the book that they left. The empty book is such a book.
-  pub sales_of_the_base_leave_the_book_that_they_left : (ops : List Op) → BaseOps ops → after book ops ≡ base_after book ops
-  sales_of_the_base_leave_the_book_that_they_left = same_after book stored
+  -- However many sales of one card or none, and cancellations, follow, it is word for word the book that they left. The empty book is such a book.
+  pub single_cards_leave_the_book_that_they_left : (ops : List Op) → OneCardOps ops → after book ops ≡ base_after book ops
+  single_cards_leave_the_book_that_they_left = same_after book stored
 
 pub the_empty_book_was_sound_before : base_sound empty_book ≡ true
 the_empty_book_was_sound_before = empty_before
-
--- A book was sound before there were stations (R-14) exactly if it is sound and has none; so a book stored then, of several cards too, is sound as it stands, stays
--- so, and owes the same.
-pub a_book_sound_before_stations : (book : List ℕ) → (plain_sound book ≡ true) ↔ (Sound book × PlainBook book)
-a_book_sound_before_stations book = (plain_means book, means_plain book)
-
-module _ (book : List ℕ) (stored : plain_sound book ≡ true) where
-  pub a_book_stored_before_stations_stays_sound : (ops : List Op) → Sound (after book ops)
-  a_book_stored_before_stations_stays_sound = a_sound_book_stays_sound book (plain_means book stored).0
-
-  pub a_book_stored_before_stations_owes_the_same : ((railway : ℕ) → balance_answer book railway ≡ plain_balance book railway) × (total_answer book ≡ plain_total book)
-  a_book_stored_before_stations_owes_the_same = (plain_balance_lem book (plain_means book stored).1, plain_total_lem book (plain_means book stored).1)
 
 -- THE DAY of one till that document 01 tells, call by call.
 pub the_day_of_one_till : Day

@@ -1,7 +1,7 @@
 -- THE PROMISES of the calls that read a book: how many sales it has, the sale at an entry, and the sale of a number.
 -- Assumes nothing.
 use Prim.Native.Nat.{ℕ, ◌≤◌, ◌<◌}
-use mathlib.Core.Path.{◌≡◌}
+use mathlib.Core.Path.{◌≡◌, refl}
 use mathlib.Core.Bool.{true, false}
 use mathlib.Core.List.{List, [], ◌∷◌, ◌++◌, flat_map}
 use lib.ListN.{length, get_or, replicate}
@@ -9,7 +9,7 @@ use Rattle.common.specs.Checks.{refuse}
 use Rattle.fares.specs.declared.Question.{Question}
 use Rattle.book.specs.Words.{count_of, entry_at}
 use Rattle.book.specs.Meaning.{Sound, Holds, HeldNowhere}
-use Rattle.book.proofs.ComparedWords.{the_same}
+use Rattle.book.specs.SameQuestion.{SameQuestion}
 use Rattle.sales.specs.Sales.{sale_answer}
 use Rattle.sales.specs.Reading.{booking_at, count_answer, entry_answer, find_answer, IsSale}
 use Rattle.sales.specs.History.{Number, no_number, Op, sale, empty_book, after, cancelled_in, booked_by, is_in, is_number}
@@ -72,7 +72,10 @@ module _ (book : List ℕ) (sound : Sound book) where
           receipt_tells (sale_answer book n.till n.sequence bundle found.question) ≡ answers (already_booked ∷ found.status ∷ found.parts)
       unfolding receipt_tells outcome_tells
       what_is_found_is_told_again bundle =
-          rw (known_find book sound n number i inside held, same_sale book sound n number i inside held bundle _ (the_same _))
+          rw (known_find book sound n number i inside held, same_sale book sound n number i inside held bundle _ the_same)
+        where
+          the_same : {q : Question} → SameQuestion q q
+          the_same = record { offer = refl; day = refl; persons = refl; cards = λ k l. refl; count = refl; railways = λ k l. refl; fares = λ k l. refl }
 
 -- After any sales and cancellations from the empty book there are as many sales as numbers were booked, each in its turn; and a number that was never booked is
 -- not found (25).

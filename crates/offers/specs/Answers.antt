@@ -76,9 +76,9 @@ unfoldable pub tally_tells : Tally → Told
 tally_tells (Entries n) = answers (n ∷ [])
 tally_tells (NoCount why) = refuses why (0 ∷ [])
 
--- A SALE READ: its entry, till, sequence and status, the values of its question, and its eight parts; 52 values.
+-- A SALE READ: its entry, till, sequence and status, the values of its question, and its eight parts; 36 values.
 abbrev pub leg_values : Leg → List ℕ
-leg_values leg = leg.railway ∷ leg.fare ∷ leg.from ∷ leg.to ∷ []
+leg_values leg = leg.railway ∷ leg.fare ∷ []
 
 abbrev pub question_values : Question → List ℕ
 question_values q = q.offer ∷ q.day ∷ q.persons ∷ (q.cards ++ (q.count ∷ flat_map leg_values q.legs))
@@ -87,7 +87,7 @@ abbrev pub booking_values : Booking → List ℕ
 booking_values r = r.entry ∷ r.till ∷ r.sequence ∷ r.status ∷ (question_values r.question ++ r.parts)
 
 abbrev pub booking_width : ℕ
-booking_width = 52
+booking_width = 36
 
 unfoldable pub lookup_tells : Lookup → List ℕ → Told
 lookup_tells Found values = answers values

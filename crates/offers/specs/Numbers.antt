@@ -1,4 +1,4 @@
--- THE TABLE OF NUMBERS that turn work away (document 01, 'Numbers that turn work away', and document 02, R-1, R-13 and R-14), by the calls that can tell them.
+-- THE TABLE OF NUMBERS that turn work away (document 01, 'Numbers that turn work away', and document 02, R-1 and R-13), by the calls that can tell them.
 -- docs/refusals.tsv has the same table with a text for each number.
 -- Assumes nothing.
 use Rattle.std.specs.Prelude.{ℕ, ◌≡◌, true, List, [], ◌∷◌, ◌++◌, eqb}
@@ -19,7 +19,7 @@ abbrev pub verdict_numbers : List ℕ
 verdict_numbers = 1 ∷ 2 ∷ 3 ∷ 4 ∷ 5 ∷ 6 ∷ 7 ∷ []
 
 abbrev pub fare_numbers : List ℕ
-fare_numbers = verdict_numbers ++ (11 ∷ 17 ∷ 20 ∷ 12 ∷ 13 ∷ 14 ∷ 15 ∷ [])
+fare_numbers = verdict_numbers ++ (11 ∷ 17 ∷ 12 ∷ 13 ∷ 14 ∷ 15 ∷ [])
 
 abbrev pub sale_numbers : List ℕ
 sale_numbers = fare_numbers ++ (21 ∷ 22 ∷ 23 ∷ 24 ∷ [])
@@ -44,7 +44,7 @@ find_numbers = 21 ∷ 22 ∷ 25 ∷ []
 
 -- ALL OF THEM: a handset has a text for each. 16, a fare above 4,294,967,295 cents, went with R-13 and is never used again.
 abbrev pub all_numbers : List ℕ
-all_numbers = 1 ∷ 2 ∷ 3 ∷ 4 ∷ 5 ∷ 6 ∷ 7 ∷ 11 ∷ 12 ∷ 13 ∷ 14 ∷ 15 ∷ 17 ∷ 20 ∷ 21 ∷ 22 ∷ 23 ∷ 24 ∷ 25 ∷ []
+all_numbers = 1 ∷ 2 ∷ 3 ∷ 4 ∷ 5 ∷ 6 ∷ 7 ∷ 11 ∷ 12 ∷ 13 ∷ 14 ∷ 15 ∷ 17 ∷ 21 ∷ 22 ∷ 23 ∷ 24 ∷ 25 ∷ []
 
 -- WHAT A CALL TELLS, whatever it is lent and asked: a case for each call
 pub data CallTells : Told → Type 0 where

@@ -13,10 +13,9 @@
 //   fare      as verdict, then
 //            11  the question is outside its limits
 //            17  a card is given twice
-//            20  the check digit of a station is wrong: leg, 0 from, 1 to; for all legs before any 12
 //            12  no CO of the offer for the railway or for all: leg
-//            13  none of these is valid on the day: leg
-//            14  the persons are outside fields 28 and 29 of the CO that is used: leg
+//            13  the day is outside that CO: leg
+//            14  the persons are outside that CO's fields 28 and 29: leg
 //            15  a condition is set that the engine does not read: leg, field
 //   sale     21  the book is unsound
 //            22  till or sequence is 0 or too large

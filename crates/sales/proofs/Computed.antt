@@ -8,7 +8,6 @@ use Rattle.common.specs.Least.{least}
 use Rattle.common.specs.Lists.{every, any, only, same, sum, first_of, up_to}
 use Rattle.common.specs.Rising.{insert, insert_all}
 use Rattle.common.specs.Digits.{digits_after, number_of}
-use Rattle.common.specs.CheckDigit.{sum_from, check_digit, is_right, last_digits}
 use Rattle.common.specs.Checks.{first_fault, each_from}
 use Rattle.layout.specs.Company.{is_company, is_all_railways, is_transferor, company_of, is_railway}
 use Rattle.layout.specs.Dates.{is_day, month_length, month_lengths}
@@ -29,7 +28,7 @@ use Rattle.fares.specs.Cards.{least_from, after_cards}
 use Rattle.fares.specs.Legs.{cards_for, persons_fit, unread, first_set, part_by}
 use Rattle.fares.specs.Fare.{parts_of, price_checks, fare_checks, fare_of}
 use Rattle.book.specs.Due.{due_from, carried_by, any_leg}
-use Rattle.book.proofs.ComparedWords.{the_same}
+use Rattle.book.specs.SameQuestion.{SameQuestion}
 use Rattle.sales.specs.Sales.{receipt, sale_answer}
 use Rattle.sales.specs.History.{Op, cancel, empty_book, after, cancelled_in, booked_by, books, owed}
 use Rattle.sales.specs.Figures.{number, bundle, asked, parts, sold, Owes, Sells, Day}
@@ -41,7 +40,7 @@ use Rattle.sales.proofs.SentAgain.{told_first, cancel_told}
 
 -- THE FARE, computed
 priced_parts : ((fare_of bundle asked).outcome ≡ Priced) × ((fare_of bundle asked).parts ≡ parts) × (parts_of (records_of bundle) asked ≡ parts)
-unfolding least every any only same sum first_of digits_after number_of sum_from check_digit is_right last_digits first_fault each_from is_company is_all_railways is_transferor company_of is_railway is_day month_length month_lengths length_of end_of table_at tables row_with row_of bytes_of byte_of number_in is_yes transferor_of offer_of railway_of code_of code_fits same_key day_row has_period first_day last_day holds_day first_shared last_shared share_day grant_in number_or_blank most_persons factor_rule first_day_rule last_day_rule ruled kept_beside keeps_row first_broken broken_field table_of step_of records_from rest_from records_of rest_of other_transferor clash earlier_of link_rows is_asked railway_serves joins serves missing_link is_of choice_of first_pass second_pass checks cards_in_limits cards_differ in_limits rounded upwards downwards nearest reduce_by reduce_all insert insert_all flat_map least_from after_cards cards_for persons_fit unread first_set part_by parts_of price_checks fare_checks fare_of digits period year conditions_in named_in card_in
+unfolding least every any only same sum first_of digits_after number_of first_fault each_from is_company is_all_railways is_transferor company_of is_railway is_day month_length month_lengths length_of end_of table_at tables row_with row_of bytes_of byte_of number_in is_yes transferor_of offer_of railway_of code_of code_fits same_key day_row has_period first_day last_day holds_day first_shared last_shared share_day grant_in number_or_blank most_persons factor_rule first_day_rule last_day_rule ruled kept_beside keeps_row first_broken broken_field table_of step_of records_from rest_from records_of rest_of other_transferor clash earlier_of link_rows is_asked railway_serves joins serves missing_link is_of choice_of first_pass second_pass checks cards_in_limits cards_differ in_limits rounded upwards downwards nearest reduce_by reduce_all insert insert_all flat_map least_from after_cards cards_for persons_fit unread first_set part_by parts_of price_checks fare_checks fare_of digits period year conditions_in named_in card_in
 priced_parts = (refl, refl, refl)
 
 -- WHAT IS OWED after some operations, computed from the fare
@@ -57,6 +56,9 @@ first_booked : Sells [] Booked
 unfolding booked_by any after
 first_booked = first_is_booked [] number refl refl bundle asked (omega arith) priced_parts.0 ∙ ap (receipt Booked) priced_parts.1
 
+same_asked : SameQuestion asked asked
+same_asked = record { offer = refl; day = refl; persons = refl; cards = λ k l. refl; count = refl; railways = λ k l. refl; fares = λ k l. refl }
+
 module _ (more : List Op) where
   again : (status : ℕ) → sale_answer (after empty_book (sold ∷ more)) 1 1 bundle asked ≡ receipt (AlreadyBooked status) (parts_of (records_of bundle) asked) → Sells (sold ∷ more) (AlreadyBooked status)
   again status e = e ∙ ap (receipt (AlreadyBooked status)) priced_parts.2
@@ -65,15 +67,15 @@ booked_first : (sale_answer (after empty_book []) 1 1 bundle asked).outcome ≡ 
 booked_first = ap (λ r. r.outcome) first_booked
 
 pub the_day : Day
-unfolding cancelled_in owed books due_from up_to least every any only same sum first_of digits_after number_of sum_from check_digit is_right last_digits first_fault each_from is_company is_all_railways is_transferor company_of is_railway is_day month_length month_lengths length_of end_of table_at tables row_with row_of bytes_of byte_of number_in is_yes transferor_of offer_of railway_of code_of code_fits same_key day_row has_period first_day last_day holds_day first_shared last_shared share_day grant_in number_or_blank most_persons factor_rule first_day_rule last_day_rule ruled kept_beside keeps_row first_broken broken_field table_of step_of records_from rest_from records_of rest_of other_transferor clash earlier_of link_rows is_asked railway_serves joins serves missing_link is_of choice_of first_pass second_pass checks cards_in_limits cards_differ in_limits rounded upwards downwards nearest reduce_by reduce_all insert insert_all flat_map least_from after_cards cards_for persons_fit unread first_set part_by parts_of price_checks fare_checks fare_of digits period year conditions_in named_in card_in
+unfolding cancelled_in owed books due_from up_to least every any only same sum first_of digits_after number_of first_fault each_from is_company is_all_railways is_transferor company_of is_railway is_day month_length month_lengths length_of end_of table_at tables row_with row_of bytes_of byte_of number_in is_yes transferor_of offer_of railway_of code_of code_fits same_key day_row has_period first_day last_day holds_day first_shared last_shared share_day grant_in number_or_blank most_persons factor_rule first_day_rule last_day_rule ruled kept_beside keeps_row first_broken broken_field table_of step_of records_from rest_from records_of rest_of other_transferor clash earlier_of link_rows is_asked railway_serves joins serves missing_link is_of choice_of first_pass second_pass checks cards_in_limits cards_differ in_limits rounded upwards downwards nearest reduce_by reduce_all insert insert_all flat_map least_from after_cards cards_for persons_fit unread first_set part_by parts_of price_checks fare_checks fare_of digits period year conditions_in named_in card_in
 the_day =
     record {
       sale_first = first_booked;
       owes_first = owed_then (sold ∷ []) refl refl refl;
-      sent_again = again [] 0 (told_first [] number bundle asked [] booked_first bundle asked (the_same asked));
+      sent_again = again [] 0 (told_first [] number bundle asked [] booked_first bundle asked same_asked);
       owes_again = owed_then (sold ∷ sold ∷ []) refl refl refl;
       is_cancelled_lem = cancel_told [] number bundle asked (sold ∷ []) booked_first ∙ ap (receipt Cancelled) priced_parts.2;
       owes_nothing = owed_then (sold ∷ sold ∷ cancel number ∷ []) refl refl refl;
-      sent_late = again (sold ∷ cancel number ∷ []) 1 (told_first [] number bundle asked (sold ∷ cancel number ∷ []) booked_first bundle asked (the_same asked));
+      sent_late = again (sold ∷ cancel number ∷ []) 1 (told_first [] number bundle asked (sold ∷ cancel number ∷ []) booked_first bundle asked same_asked);
       owes_still_nothing = owed_then (sold ∷ sold ∷ cancel number ∷ sold ∷ []) refl refl refl;
     }

@@ -6,5 +6,5 @@ pub mod InAnyBook
 pub mod SentFirst
 pub mod SentAgain
 pub mod Computed
-pub mod OfTheBase
-pub mod OfTheBaseHistory
+pub mod OneCard
+pub mod OneCardHistory

@@ -9,23 +9,22 @@ use native.Mathlib.Omega.{arith}
 use lib.Dec.{eqb, leb, ltb}
 use lib.ListN.{length, get_or, drop, replicate, length-map}
 use lib.Seq.{drop_at}
-use borrow.Author.Tests.{le-leb, lt-leb, lt-ltb, le-ltb, ltb-false, ltb-true, leb-true, not-true}
+use borrow.Author.Tests.{le-leb, lt-leb, lt-ltb, le-ltb, ltb-false, ltb-true, leb-true, not-true, not-false}
 use Rattle.common.specs.Lists.{every, any, same}
 use Rattle.common.specs.Checks.{Finding, clean, fault, Check, check, first_fault}
 use Rattle.common.proofs.Tests.{side, never, both_true}
 use Rattle.common.proofs.Least.{within}
 use Rattle.common.proofs.Lists.{every_at, every_append, every_by, every_replicate, any_least, first_length, map_fixed}
 use Rattle.common.proofs.Sums.{map_at}
-use Rattle.common.proofs.Checks.{append_clean}
+use Rattle.common.proofs.Checks.{append_clean, one_clean}
 use Rattle.bundle.specs.Records.{records_of}
 use Rattle.bundle.specs.Verdict.{checks}
-use Rattle.fares.specs.Question.{no_leg, legs_of, in_limits}
+use Rattle.fares.specs.Question.{no_leg, legs_of, card_slots, cards_differ, in_limits}
 use Rattle.fares.specs.Legs.{part_of}
-use Rattle.fares.specs.Fare.{parts_of, price_checks, well_asked, fare_checks, quoted, fare_of}
+use Rattle.fares.specs.Fare.{parts_of, price_checks, fare_checks, quoted, fare_of}
 use Rattle.fares.specs.declared.Leg.{Leg}
 use Rattle.fares.specs.declared.Question.{Question}
 use Rattle.fares.proofs.FareLaws.{asked, part_small}
-use Rattle.fares.proofs.PriceLaws.{clean_well}
 use Rattle.fares.proofs.Meaning.{eight_parts}
 use Rattle.book.specs.Words.{Entry, no_entry, capacity, count_of, entries, question_words, booking}
 use Rattle.book.specs.Due.{due_from}
@@ -98,14 +97,19 @@ books_is w s n b q =
     rw (sound_is w s) e in
     x ∙ rw (not_full (length (entries w)) capacity, present_is w n, priced_is b q, ← length-map (entries w) sale_number_of)
 
--- what a sale that books has: a question that is asked well, and parts within the bound, zero from the leg count on
+-- what a sale that books has: a question within its limits, cards that differ, and parts within the bound, zero from the leg count on
 module _ (b : List ℕ) (q : Question) (c : first_fault (fare_checks b q) ≡ clean) where
-  asked_well : well_asked q ≡ true
-  unfolding fare_checks
-  asked_well = clean_well (records_of b) q (append_clean (checks b) (price_checks (records_of b) q) c).1
+  passed : (not (in_limits q) ≡ false) × (not (cards_differ (card_slots q)) ≡ false)
+  unfolding fare_checks price_checks
+  passed =
+      let l = one_clean (not (in_limits q)) 11 0 0 _ (append_clean (checks b) (price_checks (records_of b) q) c).1 in
+      (l.0, (one_clean (not (cards_differ (card_slots q))) 17 0 0 _ l.1).0)
 
   pub priced_in_limits : in_limits q ≡ true
-  priced_in_limits = (both_true (in_limits q) _ asked_well).0
+  priced_in_limits = not-false (in_limits q) passed.0
+
+  priced_differ : cards_differ (card_slots q) ≡ true
+  priced_differ = not-false (cards_differ (card_slots q)) passed.1
 
   abbrev parts : List ℕ
   parts = parts_of (records_of b) q
@@ -204,7 +208,7 @@ module _ (w : List ℕ) (s : IsSound w) (n : Number) (b : List ℕ) (q : Questio
     sale_sound =
         rw sale_adds
         (added_sound w s entry room whole
-        (booking_sound t u q (parts_of (records_of b) q) told.0 (asked_well b q told.3) (parts_small b q told.3) (parts_clear b q told.3)) absent)
+        (booking_sound t u q (parts_of (records_of b) q) told.0 (priced_in_limits b q told.3) (priced_differ b q told.3) (parts_small b q told.3) (parts_clear b q told.3)) absent)
 
 -- THE CANCELLATION
 module _ (w : List ℕ) (s : IsSound w) (t u : ℕ) where

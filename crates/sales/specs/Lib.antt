@@ -2,6 +2,6 @@ pub mod Sales
 pub mod Balances
 pub mod Reading
 pub mod History
-pub mod Base
+pub mod OneCard
 pub mod Helpers
 pub mod Figures

@@ -38,8 +38,6 @@ fn no_booking(why: Refusal) -> Booking
     let no_leg = Leg {
         railway: 0,
         fare: 0,
-        from: 0,
-        to: 0,
     };
     let question = Question {
         offer: 0,

@@ -7,20 +7,14 @@ fn ticket(persons: u32, cards: [u32; 4]) -> Question {
     let none = Leg {
         railway: 0,
         fare: 0,
-        from: 0,
-        to: 0,
     };
     let first = Leg {
         railway: 1185,
         fare: 1010,
-        from: 123455,
-        to: 234567,
     };
     let second = Leg {
         railway: 1181,
         fare: 500,
-        from: 234567,
-        to: 345678,
     };
     Question {
         offer: 42,

@@ -21,7 +21,6 @@ use crate::generate::dearest::{costliest_offer, most_asked};
 use crate::generate::histories::{any_bundle, drawn_bundles, drawn_step};
 use crate::generate::questions::{question, question_in_limits, unaimed_question};
 use crate::generate::random::Random;
-use crate::generate::stations::right_ends;
 use crate::generate::valid::{sized_bundle_with_memos, valid_bundle, valid_bundle_with_cards};
 use crate::layout::Table;
 use crate::program::LONGEST_INPUT;
@@ -299,12 +298,9 @@ fn limits(bench: &mut Bench, random: &mut Random) -> io::Result<()> {
     let lent = Lent::of(&bundle, &book);
     let mut asked = question_in_limits(random, &bundle);
     for leg in &mut asked.legs {
-        let (from, to) = right_ends(random);
         *leg = Leg {
             railway: random.between_with_ends(1, 9999),
             fare: random.between_with_ends(0, 999_999),
-            from,
-            to,
         };
     }
     let cards = random.place_in(CARD_SLOTS + 1);

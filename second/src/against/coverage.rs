@@ -4,7 +4,6 @@ mod keys;
 mod months;
 mod readings;
 mod seasons;
-mod stations;
 
 use std::collections::BTreeMap;
 use std::fmt::Write;
@@ -24,14 +23,12 @@ use crate::layout::{co, Table};
 use crate::question::{Question, CARD_SLOTS, LARGEST_CARD, NO_CARDS};
 use crate::rounding::{Reduction, Rounding};
 use crate::seasons::Source;
-use crate::stations::stops::End;
 
 const ANSWERED: &str = "answered";
 const LINK: &str = "7, detail";
 const CROWDED_KEY: &str = "many, 6 of";
 const CROWDED_LINK: &str = "many, 7, detail";
 const UNREAD: &str = "15, field";
-const WRONG_END: &str = "20, detail";
 const OUTCOME: &str = "outcome";
 const CO_ROUNDING: &str = "rounding by CO";
 const AR_ROUNDING: &str = "rounding by AR";
@@ -140,7 +137,6 @@ impl Coverage {
             self.meet(call.name.word(), answer.number);
             if matches!(call.name, Name::Fare | Name::Sale) {
                 self.note_refused_cards(&call.question, lent, answer);
-                self.note_refused_stations(call, lent, answer);
             }
             if matches!(answer.number, 12 | 13) {
                 self.note_leg_without_record(call, lent, answer);
@@ -184,7 +180,6 @@ impl Coverage {
             }
             7 => self.meet(LINK, answer.detail),
             15 => self.meet(UNREAD, answer.detail),
-            20 => self.meet(WRONG_END, answer.detail),
             _ => (),
         }
     }
@@ -242,7 +237,6 @@ impl Coverage {
             _ => CARDS_IN_SALE,
         };
         self.meet(cards, question.given_cards().len());
-        self.note_priced_stations(question);
         let legs = priced_legs(lent.bundle, question).unwrap_or_default();
         self.note_records_of_legs(call, lent, &legs);
         for leg in &legs {
@@ -366,10 +360,8 @@ fn source(source: Source) -> &'static str {
 fn numbers_of(name: Name) -> &'static [u64] {
     match name {
         Name::Verdict => &[1, 2, 3, 4, 5, 6, 7],
-        Name::Fare => &[1, 2, 3, 4, 5, 6, 7, 11, 17, 20, 12, 13, 14, 15],
-        Name::Sale => &[
-            1, 2, 3, 4, 5, 6, 7, 11, 17, 20, 12, 13, 14, 15, 21, 22, 23, 24,
-        ],
+        Name::Fare => &[1, 2, 3, 4, 5, 6, 7, 11, 17, 12, 13, 14, 15],
+        Name::Sale => &[1, 2, 3, 4, 5, 6, 7, 11, 17, 12, 13, 14, 15, 21, 22, 23, 24],
         Name::Cancel => &[21, 22, 25],
         Name::Balance => &[11, 21],
         Name::Total | Name::Count => &[21],
@@ -388,7 +380,6 @@ fn every_point() -> Vec<Point> {
     groups.extend(groups_of_pricing());
     groups.extend(seasons::groups());
     groups.extend(groups_of_cards());
-    groups.extend(stations::groups());
     groups.extend(groups_of_arguments());
     groups.extend(months::groups());
     let points_of = |(group, items): (String, Vec<String>)| {
@@ -416,7 +407,6 @@ fn groups_of_numbers() -> Vec<Group> {
     }
     groups.push(group(LINK, &[1, 2, 3, 4]));
     groups.push(group(UNREAD, &co::UNREAD_CONDITIONS));
-    groups.push(group(WRONG_END, &End::ALL.map(End::detail)));
     groups.push(group(OUTCOME, &OUTCOMES));
     groups
 }

@@ -145,7 +145,7 @@ impl Course {
         };
         let bundle = random.place_in(self.bundles.len());
         let is_cancelled = self.is_cancelled(first);
-        let answer = self.take(bench, &Step::sale(bundle, sent))?;
+        let answer = self.take(bench, &Step::Sale { bundle, sent })?;
         bench.coverage.note_resent(change, is_cancelled, &answer);
         Ok(())
     }
@@ -237,7 +237,10 @@ fn resending(
     }
     let sent = numbered(random, question);
     let (till, sequence) = (sent.till, sent.sequence);
-    for step in [Step::sale(0, sent), Step::Cancel { till, sequence }] {
+    for step in [
+        Step::Sale { bundle: 0, sent },
+        Step::Cancel { till, sequence },
+    ] {
         course.take(bench, &step)?;
         let mut changes = Change::all();
         random.shuffle(&mut changes);
@@ -259,7 +262,7 @@ fn numbered(random: &mut Random, question: Question) -> Sent {
 
 fn sale_of(random: &mut Random, question: Question) -> Step {
     let sent = numbered(random, question);
-    Step::sale(0, sent)
+    Step::Sale { bundle: 0, sent }
 }
 
 /// A question that the first bundle prices; a plain one takes its place where none is found.

@@ -143,13 +143,12 @@ fn narrowed(question: &Question) -> Question {
 const CARDS: usize = 3;
 const LEG_COUNT: usize = CARDS + CARD_SLOTS;
 const LEGS: usize = LEG_COUNT + 1;
-const LEG_NUMBERS: usize = 4;
-const QUESTION_NUMBERS: usize = LEGS + LEG_NUMBERS * LEG_SLOTS;
+const QUESTION_NUMBERS: usize = LEGS + 2 * LEG_SLOTS;
 
 fn numbers_of(question: &Question) -> [u32; QUESTION_NUMBERS] {
     let mut numbers = [0; QUESTION_NUMBERS];
     let head = [question.offer, question.day, question.persons];
-    let legs = question.legs.iter().flat_map(numbers_of_leg);
+    let legs = question.legs.iter().flat_map(|leg| [leg.railway, leg.fare]);
     let values = head
         .into_iter()
         .chain(question.cards)
@@ -159,10 +158,6 @@ fn numbers_of(question: &Question) -> [u32; QUESTION_NUMBERS] {
         *number = narrow(value);
     }
     numbers
-}
-
-fn numbers_of_leg(leg: &Leg) -> [u64; LEG_NUMBERS] {
-    [leg.railway, leg.fare, leg.from, leg.to]
 }
 
 fn question_of(numbers: &[u32; QUESTION_NUMBERS]) -> Question {
@@ -176,12 +171,9 @@ fn question_of(numbers: &[u32; QUESTION_NUMBERS]) -> Question {
         ..Question::default()
     };
     for slot in 0..LEG_SLOTS {
-        let first = LEGS + LEG_NUMBERS * slot;
         question.legs[slot] = Leg {
-            railway: value(first),
-            fare: value(first + 1),
-            from: value(first + 2),
-            to: value(first + 3),
+            railway: value(LEGS + 2 * slot),
+            fare: value(LEGS + 1 + 2 * slot),
         };
     }
     question
@@ -451,33 +443,6 @@ mod tests {
             assert_eq!(request.call, call);
             assert_eq!(request.lent(), lent);
         }
-    }
-
-    #[test]
-    fn a_question_is_forty_numbers_and_a_leg_is_four_of_them() {
-        let mut asked = Question::default();
-        for (leg, slot) in asked.legs.iter_mut().zip(0..) {
-            *leg = Leg {
-                railway: 10 * slot,
-                fare: 10 * slot + 1,
-                from: 10 * slot + 2,
-                to: 10 * slot + 3,
-            };
-        }
-        let numbers = numbers_of(&asked);
-        assert_eq!(numbers.len(), 40);
-        assert_eq!(numbers[8..16], [0, 1, 2, 3, 10, 11, 12, 13]);
-        assert_eq!(numbers[36..], [70, 71, 72, 73]);
-    }
-
-    /// One of a question of 24 numbers is not read as one of 40.
-    #[test]
-    fn a_request_from_before_the_stations_ends_early() {
-        let head = 6 * 8 + 4 * 4;
-        let whole = encode(&Call::of(Name::Verdict), &Lent::of(&[b'X'; 99], &[]), false);
-        let without_stations = [&whole[..head + 24 * 4], &whole[head + 40 * 4..]].concat();
-        assert!(decode(&mut &whole[..]).is_ok());
-        assert!(decode(&mut &without_stations[..]).is_err());
     }
 
     /// No byte of a reply's answer is passed over, nor told twice.

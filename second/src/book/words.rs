@@ -3,15 +3,12 @@
 use super::{unsound, Book, Cancel, Count, Entry, Reading, Sale, Sum, MOST_ENTRIES};
 use crate::fare::Question;
 use crate::question::LEG_SLOTS;
-use crate::stations::stops::Stop;
 
 pub const ENTRY_WORDS: usize = 64;
 pub const BOOK_WORDS: usize = 1 + MOST_ENTRIES * ENTRY_WORDS;
 
 /// Places of the words inside one entry.
 pub mod place {
-    use crate::stations::stops::Stop;
-
     pub const TILL: usize = 0;
     pub const SEQUENCE: usize = 1;
     pub const OFFER: usize = 2;
@@ -33,10 +30,6 @@ pub mod place {
 
     pub fn fare(leg: usize) -> usize {
         railway(leg) + 1
-    }
-
-    pub fn station(stop: Stop) -> usize {
-        fare(stop.leg) + 1 + stop.end.detail() as usize
     }
 }
 
@@ -95,10 +88,6 @@ fn entry_of_words(words: &[u32]) -> Option<Entry> {
         entry.question.legs[leg].fare = number(place::fare(leg));
         entry.parts[leg] = number(place::PARTS + leg);
     }
-    for stop in Stop::all() {
-        let station = number(place::station(stop));
-        entry.question.put_station(stop, station);
-    }
     (words_of_entry(&entry)? == words).then_some(entry)
 }
 
@@ -122,9 +111,6 @@ fn words_of_entry(entry: &Entry) -> Option<[u32; ENTRY_WORDS]> {
         put(place::railway(leg), asked.railway)?;
         put(place::fare(leg), asked.fare)?;
         put(place::PARTS + leg, entry.parts[leg])?;
-    }
-    for stop in Stop::all() {
-        put(place::station(stop), question.station(stop))?;
     }
     put(place::MARK, u64::from(entry.cancelled))?;
     Some(words)
@@ -229,9 +215,6 @@ mod tests {
         assert_eq!(place::CARDS + CARD_SLOTS, place::LEG_COUNT);
         assert_eq!(place::CATEGORIES + 12, place::LEGS);
         assert_eq!(place::LEGS + 32, place::PARTS);
-        let stations: Vec<usize> = Stop::all().into_iter().map(place::station).collect();
-        let due = (0..8).flat_map(|leg| [23 + 4 * leg, 24 + 4 * leg]);
-        assert!(stations.into_iter().eq(due));
         assert_eq!(place::PARTS + 8, place::MARK);
         assert_eq!(place::RESERVE + 1, ENTRY_WORDS);
     }
@@ -258,25 +241,11 @@ mod tests {
             set[1 + ENTRY_WORDS + place] = 1;
             assert!(!is_sound(&set), "{place}");
         }
-    }
-
-    #[test]
-    fn an_old_book_has_no_stations_and_is_sound() {
-        let mut random = Random::from_seed(10);
-        let mut words = words_of_book(&full_book(&mut random)).unwrap();
-        for entry in words[1..].chunks_mut(ENTRY_WORDS) {
-            for stop in Stop::all() {
-                entry[place::station(stop)] = 0;
-            }
-        }
-        assert!(is_sound(&words));
-        let used = words[1 + place::LEG_COUNT] as usize;
-        for stop in Stop::all() {
-            for (station, is_right) in [(18, true), (17, false), (1_000_000, false)] {
+        for leg in 0..8 {
+            for place in [place::fare(leg) + 1, place::fare(leg) + 2] {
                 let mut set = words.clone();
-                set[1 + place::station(stop)] = station;
-                let is_due = is_right && stop.leg < used;
-                assert_eq!(is_sound(&set), is_due, "{station} at {stop}");
+                set[1 + place] = 1;
+                assert!(!is_sound(&set), "{place}");
             }
         }
     }
@@ -317,8 +286,6 @@ mod tests {
         let mut words = before.clone();
         let bundle = assemble(&[Draft::plain(Table::Co)]);
         let mut question = asked(3, &[999, 4, 17, 8], &[(1185, 500)]);
-        question.legs[0].from = 123_455;
-        question.legs[0].to = 18;
         question.legs = [question.legs[0]; LEG_SLOTS];
         let sequence = (1..)
             .find(|&free| book.place_of(2, free).is_none())
@@ -341,8 +308,6 @@ mod tests {
             (start + 10, 3),
             (start + 21, 1185),
             (start + 22, 500),
-            (start + 23, 123_455),
-            (start + 24, 18),
             (start + 53, 1500),
         ];
         assert_eq!(

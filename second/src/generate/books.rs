@@ -5,12 +5,10 @@ use std::collections::HashSet;
 use super::cards::{cards_with_one_twice, drawn_cards, Slots, PAIRS_OF_SLOTS};
 use super::questions::unaimed_question;
 use super::random::Random;
-use super::stations::{another_right_station, wrong_station, OUT_OF_LIMITS};
 use crate::book::words::{empty_book, place, words_of_book, BOOK_WORDS, ENTRY_WORDS};
 use crate::book::{Book, Entry, LARGEST_SEQUENCE, LARGEST_TILL, MOST_ENTRIES};
 use crate::fare::largest_part;
 use crate::question::{Cards, Leg, CARD_SLOTS, LEG_SLOTS};
-use crate::stations::stops::{End, Stop};
 
 pub fn sound_book(random: &mut Random) -> Book {
     let count = match random.below(5) {
@@ -124,9 +122,7 @@ pub enum BookDefect {
     RailwayZero,
     RailwayTooLarge,
     PlainFareTooLarge,
-    StationWrong(End),
-    StationTooLarge(End),
-    StationInUnusedLeg(End),
+    StationSet,
     PartTooLarge,
     PartOverBoundOfCards(usize),
     UnusedLegSet,
@@ -144,7 +140,7 @@ type BadWord = (usize, &'static [u32]);
 const NO_DAYS: [u32; 5] = [0, 15_821_231, 20_230_229, 20_241_301, 100_000_101];
 
 impl BookDefect {
-    const OF_ONE_KIND: [BookDefect; 34] = [
+    const OF_ONE_KIND: [BookDefect; 35] = [
         BookDefect::NoWords,
         BookDefect::OneWordShort,
         BookDefect::OneWordLong,
@@ -171,6 +167,7 @@ impl BookDefect {
         BookDefect::RailwayZero,
         BookDefect::RailwayTooLarge,
         BookDefect::PlainFareTooLarge,
+        BookDefect::StationSet,
         BookDefect::PartTooLarge,
         BookDefect::UnusedLegSet,
         BookDefect::UnusedPartSet,
@@ -191,9 +188,6 @@ impl BookDefect {
                 .map(BookDefect::CardBehindAGap),
         );
         all.extend((0..=CARD_SLOTS).map(BookDefect::PartOverBoundOfCards));
-        all.extend(End::ALL.map(BookDefect::StationWrong));
-        all.extend(End::ALL.map(BookDefect::StationTooLarge));
-        all.extend(End::ALL.map(BookDefect::StationInUnusedLeg));
         all
     }
 
@@ -205,7 +199,6 @@ impl BookDefect {
         let entry = &mut book.entries[victim];
         shorten_question(random, entry);
         self.damage_cards(random, entry);
-        self.damage_stations(random, entry);
         let mut words = words_of_book(&book).expect("all values fit their words");
         let start = 1 + victim * ENTRY_WORDS;
         self.damage_words(random, &mut words, count, start);
@@ -229,26 +222,6 @@ impl BookDefect {
             }
             _ => (),
         }
-    }
-
-    fn damage_stations(self, random: &mut Random, entry: &mut Entry) {
-        let used = entry.question.used_slots();
-        let (stop, station) = match self {
-            BookDefect::StationWrong(end) => {
-                let leg = random.place_in(used);
-                (Stop { leg, end }, wrong_station(random))
-            }
-            BookDefect::StationTooLarge(end) => {
-                let leg = random.place_in(used);
-                (Stop { leg, end }, random.pick(&OUT_OF_LIMITS))
-            }
-            BookDefect::StationInUnusedLeg(end) => {
-                let leg = used + random.place_in(LEG_SLOTS - used);
-                (Stop { leg, end }, station_other_than_zero(random))
-            }
-            _ => return,
-        };
-        entry.question.put_station(stop, station);
     }
 
     fn damage_words(self, random: &mut Random, words: &mut Vec<u32>, count: usize, start: usize) {
@@ -306,6 +279,10 @@ impl BookDefect {
     fn bad_word_at_a_drawn_place(self, random: &mut Random, unused_leg: usize) -> Option<BadWord> {
         let bad: BadWord = match self {
             BookDefect::FurtherPersons => (place::PERSONS + 1 + random.place_in(10), &[1, 99]),
+            BookDefect::StationSet => {
+                let leg = random.place_in(LEG_SLOTS);
+                (place::fare(leg) + 1 + random.place_in(2), &[1, u32::MAX])
+            }
             BookDefect::UnusedLegSet => {
                 let places = [place::railway(unused_leg), place::fare(unused_leg)];
                 (random.pick(&places), &[1, 1185])
@@ -358,14 +335,6 @@ fn shorten_question(random: &mut Random, entry: &mut Entry) {
             entry.question.legs[slot] = Leg::default();
             entry.parts[slot] = 0;
         }
-    }
-}
-
-/// Mostly right.
-fn station_other_than_zero(random: &mut Random) -> u64 {
-    match random.below(4) {
-        0 => wrong_station(random),
-        _ => another_right_station(random, 0),
     }
 }
 

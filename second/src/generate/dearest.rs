@@ -40,7 +40,6 @@ pub fn most_asked(cards: usize) -> Question {
     let leg = Leg {
         railway: 1185,
         fare: LARGEST_PLAIN_FARE,
-        ..Leg::default()
     };
     Question {
         offer: 42,

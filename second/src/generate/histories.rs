@@ -6,7 +6,6 @@ use super::damage::{with_relation_fault, RelationFault};
 use super::questions::question;
 use super::random::Random;
 use super::resent::{changed, Sent};
-use super::stations::any_station;
 use super::valid::{valid_bundle, valid_bundle_with_cards};
 use crate::book::words::{
     balance, book_of_words, cancel, count, empty_book, entry, find, sale, total, words_of_book,
@@ -15,22 +14,15 @@ use crate::book::{Book, Cancel, Count, Reading, Sale, Sum};
 use crate::bundle::LONGEST_BUNDLE;
 use crate::question::LEG_SLOTS;
 
-#[derive(Clone, Debug, PartialEq, Eq)]
+#[derive(Clone, Copy, Debug, PartialEq, Eq)]
 pub enum Step {
-    Sale { bundle: usize, sent: Box<Sent> },
+    Sale { bundle: usize, sent: Sent },
     Cancel { till: u64, sequence: u64 },
     Balance { railway: u64 },
     Total,
     Count,
     Entry { place: u64 },
     Find { till: u64, sequence: u64 },
-}
-
-impl Step {
-    pub fn sale(bundle: usize, sent: Sent) -> Step {
-        let sent = Box::new(sent);
-        Step::Sale { bundle, sent }
-    }
 }
 
 #[derive(Clone, Debug, PartialEq, Eq)]
@@ -182,7 +174,7 @@ fn new_sale(random: &mut Random, bundles: &[Vec<u8>]) -> Step {
         sequence,
         question: question(random, &bundles[bundle]),
     };
-    Step::sale(bundle, sent)
+    Step::Sale { bundle, sent }
 }
 
 fn drawn_bundle(random: &mut Random, bundles: &[Vec<u8>]) -> usize {
@@ -204,18 +196,16 @@ fn repeated_sale(random: &mut Random, known: &Book, bundles: &[Vec<u8>]) -> Step
         question: entry.question,
     };
     for slot in sent.question.used_slots()..LEG_SLOTS {
-        let leg = &mut sent.question.legs[slot];
-        leg.fare = random.pick(&[0, 0, 7, u64::MAX]);
-        (leg.from, leg.to) = (any_station(random), any_station(random));
+        sent.question.legs[slot].fare = random.pick(&[0, 0, 7, u64::MAX]);
     }
     let bundle = random.place_in(bundles.len());
-    Step::sale(bundle, sent)
+    Step::Sale { bundle, sent }
 }
 
 fn changed_repeat(random: &mut Random, known: &Book, bundles: &[Vec<u8>]) -> Step {
     let mut step = repeated_sale(random, known, bundles);
     if let Step::Sale { sent, .. } = &mut step {
-        **sent = changed(random, sent);
+        *sent = changed(random, sent);
     }
     step
 }
@@ -324,7 +314,7 @@ mod tests {
                 reached.insert(outcome(&answer));
             }
         }
-        let calls = (11..=15).chain([17, 20]).chain(21..=25);
+        let calls = (11..=15).chain([17]).chain(21..=25);
         for number in (1..=7).chain(calls).chain(101..=108) {
             assert!(reached.contains(&number), "{number} in {reached:?}");
         }

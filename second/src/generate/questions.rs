@@ -2,29 +2,22 @@
 
 use super::cards::{cards_with_a_gap, cards_with_one_twice, drawn_cards, PAIRS_OF_SLOTS};
 use super::random::Random;
-use super::stations::{any_station, mistype, right_ends, OUT_OF_LIMITS};
 use super::valid::{distinct, drawn_day};
 use crate::bundle::{readable_records, Record};
 use crate::calendar;
 use crate::layout::{ar, co, Table};
 use crate::period::Period;
 use crate::question::{cards_of, Cards, Leg, Question, CARD_SLOTS, LEG_SLOTS};
-use crate::stations::stops::{End, Stop};
 
 const AIMED_AT_A_CARD_ONE_IN: u64 = 4;
-const MISTYPED_ONE_IN: u64 = 10;
 
 /// Mostly within its limits and near to what the bundle can price.
 pub fn question(random: &mut Random, bundle: &[u8]) -> Question {
-    let mut question = match random.below(14) {
+    match random.below(14) {
         0 | 1 => question_out_of_limits(random, bundle),
         2 => question_with_a_card_twice(random, bundle),
         _ => question_in_limits(random, bundle),
-    };
-    if random.one_in(MISTYPED_ONE_IN) {
-        mistype(random, &mut question);
     }
-    question
 }
 
 pub fn question_with_a_card_twice(random: &mut Random, bundle: &[u8]) -> Question {
@@ -141,8 +134,10 @@ pub fn unaimed_question(random: &mut Random) -> Question {
         ..Question::default()
     };
     for slot in 0..question.used_slots() {
-        let railway = random.between_with_ends(1, 9999);
-        question.legs[slot] = drawn_leg(random, railway);
+        question.legs[slot] = Leg {
+            railway: random.between_with_ends(1, 9999),
+            fare: drawn_fare(random),
+        };
     }
     fill_unused_slots(random, &mut question);
     question
@@ -158,7 +153,10 @@ fn aimed_question(random: &mut Random, shelf: &Shelf) -> Question {
     let mut window = Window::open();
     for slot in 0..question.used_slots() {
         let railway = shelf.drawn_railway(random);
-        question.legs[slot] = drawn_leg(random, railway);
+        question.legs[slot] = Leg {
+            railway,
+            fare: drawn_fare(random),
+        };
         let conditions = shelf.conditions_for(random, railway);
         window.narrow_to_one_of(random, &conditions);
         if random.one_in(AIMED_AT_A_CARD_ONE_IN) {
@@ -176,8 +174,8 @@ fn aimed_question(random: &mut Random, shelf: &Shelf) -> Question {
 pub fn with_legs(random: &mut Random, first: &Question, count: usize) -> Question {
     let mut legs = [Leg::default(); LEG_SLOTS];
     for leg in &mut legs[..count] {
-        let railway = random.pick(first.used_legs()).railway;
-        *leg = drawn_leg(random, railway);
+        leg.railway = random.pick(first.used_legs()).railway;
+        leg.fare = drawn_fare(random);
     }
     if random.one_in(2) {
         legs[random.place_in(count)] = legs[random.place_in(count)];
@@ -199,16 +197,6 @@ pub fn with_cards(random: &mut Random, first: &Question, count: usize) -> Questi
     Question {
         cards: cards_of(&cards),
         ..*first
-    }
-}
-
-fn drawn_leg(random: &mut Random, railway: u64) -> Leg {
-    let (from, to) = right_ends(random);
-    Leg {
-        railway,
-        fare: drawn_fare(random),
-        from,
-        to,
     }
 }
 
@@ -300,8 +288,6 @@ fn fill_unused_slots(random: &mut Random, question: &mut Question) {
         question.legs[slot] = Leg {
             railway: random.pick(&[0, 1, 1185, 10_000, u64::MAX]),
             fare: random.pick(&[0, 1, 999_999, 1_000_000, u64::MAX]),
-            from: any_station(random),
-            to: any_station(random),
         };
     }
 }
@@ -318,7 +304,7 @@ pub fn question_out_of_limits(random: &mut Random, bundle: &[u8]) -> Question {
 pub fn break_a_limit(random: &mut Random, question: &mut Question) {
     let wide = random.pick(&[1 << 16, 1 << 32, 1 << 48]);
     let slot = random.place_in(question.used_slots().max(1));
-    match random.below(9) {
+    match random.below(8) {
         0 => question.offer = random.pick(&[0, 100_000, u64::MAX, question.offer | (1 << 32)]),
         1 => {
             let days = [
@@ -344,10 +330,6 @@ pub fn break_a_limit(random: &mut Random, question: &mut Question) {
         4 => question.leg_count = random.pick(&[0, 9, 16, u64::MAX, question.leg_count | wide]),
         5 => question.cards = cards_with_a_gap(random),
         6 => question.legs[slot].railway = random.pick(&[0, 10_000, u64::MAX, 1185 | wide]),
-        7 => {
-            let (leg, end) = (slot, random.pick(&End::ALL));
-            question.put_station(Stop { leg, end }, random.pick(&OUT_OF_LIMITS));
-        }
         _ => question.legs[slot].fare = random.pick(&[1_000_000, u64::MAX, 1010 | (1 << 32)]),
     }
 }
@@ -365,8 +347,7 @@ mod tests {
         let mut random = Random::from_seed(41);
         for _ in 0..300 {
             let bundle = valid_bundle(&mut random);
-            let inside = question_in_limits(&mut random, &bundle);
-            assert!(inside.is_within_limits() && inside.first_wrong_stop().is_none());
+            assert!(question_in_limits(&mut random, &bundle).is_within_limits());
             assert!(!question_out_of_limits(&mut random, &bundle).is_within_limits());
             let twice = question_with_a_card_twice(&mut random, &bundle);
             assert!(twice.is_within_limits() && twice.gives_a_card_twice());
@@ -427,7 +408,7 @@ mod tests {
         let expected: Vec<(u8, u64)> = [(0, 0), (11, 0), (12, 0), (13, 0), (14, 0)]
             .into_iter()
             .chain([27, 31, 32, 34, 35].map(|field| (15, field)))
-            .chain([(17, 0), (20, 0), (20, 1)])
+            .chain([(17, 0)])
             .collect();
         assert_eq!(reached.keys().copied().collect::<Vec<_>>(), expected);
         assert!(reached[&(0, 0)] > 800, "{reached:?}");

@@ -5,7 +5,6 @@ use std::fmt;
 use super::cards::further_card;
 use super::questions::break_a_limit;
 use super::random::Random;
-use super::stations::{another_right_station, any_station, mistyped};
 use super::valid::drawn_day;
 use crate::book::{LARGEST_SEQUENCE, LARGEST_TILL};
 use crate::calendar;
@@ -13,7 +12,6 @@ use crate::question::{
     cards_of, Leg, Question, CARD_SLOTS, LARGEST_CARD, LARGEST_OFFER, LARGEST_PLAIN_FARE,
     LARGEST_RAILWAY, LEG_SLOTS, MOST_PERSONS,
 };
-use crate::stations::stops::{End, Stop};
 
 /// Of a leg that may break its limits.
 const LARGEST_VALUE: u64 = u32::MAX as u64;
@@ -31,7 +29,6 @@ pub enum Change {
     EqualLegsSwapped,
     RailwayBehind,
     FareBehind,
-    StationBehind(End),
     Offer,
     Day,
     Persons,
@@ -47,22 +44,17 @@ pub enum Change {
     LimitBroken,
     Railway(usize),
     Fare(usize),
-    Station(Stop),
-    StationMistyped(End),
-    EndsSwapped,
     Till,
     Sequence,
 }
 
 impl Change {
     /// They leave the question the same.
-    pub const OF_NOTHING: [Change; 6] = [
+    pub const OF_NOTHING: [Change; 4] = [
         Change::Nothing,
         Change::EqualLegsSwapped,
         Change::RailwayBehind,
         Change::FareBehind,
-        Change::StationBehind(End::From),
-        Change::StationBehind(End::To),
     ];
 
     /// They make it another sale.
@@ -83,7 +75,6 @@ impl Change {
             Change::LegAdded,
             Change::LegsReordered,
             Change::LimitBroken,
-            Change::EndsSwapped,
         ];
         let cards = (0..CARD_SLOTS).map(Change::Card);
         let railways = (0..LEG_SLOTS).map(Change::Railway);
@@ -93,8 +84,6 @@ impl Change {
             .chain(cards)
             .chain(railways)
             .chain(fares)
-            .chain(Stop::all().into_iter().map(Change::Station))
-            .chain(End::ALL.map(Change::StationMistyped))
             .collect()
     }
 
@@ -136,37 +125,7 @@ impl Change {
                 self.apply_to_cards(random, &mut cards)?;
                 question.cards = cards_of(&cards);
             }
-            Change::Station(_)
-            | Change::StationMistyped(_)
-            | Change::StationBehind(_)
-            | Change::EndsSwapped => self.apply_to_stations(random, question)?,
             _ => return self.apply_to_legs(random, question),
-        }
-        Some(())
-    }
-
-    fn apply_to_stations(self, random: &mut Random, question: &mut Question) -> Option<()> {
-        match self {
-            Change::Station(stop) => {
-                let leg = used_legs(question).get_mut(stop.leg)?;
-                let station = leg.station_mut(stop.end);
-                *station = another_right_station(random, *station);
-            }
-            Change::StationMistyped(end) => {
-                let leg = one_of(random, used_legs(question))?;
-                let station = leg.station_mut(end);
-                *station = mistyped(random, *station);
-            }
-            Change::StationBehind(end) => {
-                let station = slot_behind(random, question)?.station_mut(end);
-                *station = another_station(random, *station);
-            }
-            Change::EndsSwapped => {
-                let differ = |leg: &&mut Leg| leg.from != leg.to;
-                let leg = used_legs(question).iter_mut().find(differ)?;
-                std::mem::swap(&mut leg.from, &mut leg.to);
-            }
-            _ => (),
         }
         Some(())
     }
@@ -233,7 +192,6 @@ impl fmt::Display for Change {
             Change::EqualLegsSwapped => "equal legs swapped",
             Change::RailwayBehind => "railway behind the legs",
             Change::FareBehind => "fare behind the legs",
-            Change::StationBehind(end) => return write!(out, "{} behind the legs", end.word()),
             Change::Offer => "offer",
             Change::Day => "day",
             Change::Persons => "persons",
@@ -249,11 +207,6 @@ impl fmt::Display for Change {
             Change::LimitBroken => "limit broken",
             Change::Railway(leg) => return write!(out, "railway of leg {leg}"),
             Change::Fare(leg) => return write!(out, "fare of leg {leg}"),
-            Change::Station(Stop { leg, end }) => {
-                return write!(out, "{} of leg {leg}", end.word())
-            }
-            Change::StationMistyped(end) => return write!(out, "{} mistyped", end.word()),
-            Change::EndsSwapped => "from and to swapped",
             Change::Till => "till",
             Change::Sequence => "sequence",
         };
@@ -270,16 +223,6 @@ fn another(random: &mut Random, number: u64, least: u64, most: u64) -> u64 {
             _ => number ^ (1 << random.below(bits)),
         };
         if drawn != number && (least..=most).contains(&drawn) {
-            return drawn;
-        }
-    }
-}
-
-/// Of a slot behind the legs.
-fn another_station(random: &mut Random, station: u64) -> u64 {
-    loop {
-        let drawn = any_station(random);
-        if drawn != station {
             return drawn;
         }
     }
@@ -339,13 +282,10 @@ fn used_legs(question: &mut Question) -> &mut [Leg] {
 
 fn slot_behind<'a>(random: &mut Random, question: &'a mut Question) -> Option<&'a mut Leg> {
     let used = question.used_slots();
-    one_of(random, &mut question.legs[used..])
-}
-
-fn one_of<'a>(random: &mut Random, legs: &'a mut [Leg]) -> Option<&'a mut Leg> {
-    match legs.len() {
+    let behind = &mut question.legs[used..];
+    match behind.len() {
         0 => None,
-        length => Some(&mut legs[random.place_in(length)]),
+        length => Some(&mut behind[random.place_in(length)]),
     }
 }
 
@@ -434,8 +374,7 @@ mod tests {
     fn changed_values(first: &Sent, again: &Sent) -> usize {
         let values = |sent: &Sent| {
             let asked = &sent.question;
-            let values_of = |leg: &Leg| [leg.railway, leg.fare, leg.from, leg.to];
-            let legs = asked.legs.iter().flat_map(values_of);
+            let legs = asked.legs.iter().flat_map(|leg| [leg.railway, leg.fare]);
             let head = [
                 sent.till,
                 sent.sequence,
@@ -462,9 +401,6 @@ mod tests {
             assert!(!leaves || !again.question.is_within_limits(), "{change}");
             let is_twice = again.question.gives_a_card_twice();
             assert!(leaves || is_twice == (change == Change::CardTwice));
-            let is_wrong = again.question.first_wrong_stop().is_some();
-            let mistypes = matches!(change, Change::StationMistyped(_));
-            assert!(leaves || is_wrong == mistypes, "{change}");
         });
     }
 
@@ -473,9 +409,8 @@ mod tests {
         each(&Change::OF_NOTHING, |change, first, again| {
             assert_eq!(number(first), number(again), "{change}");
             assert!(first.question.is_same_as(&again.question), "{change}");
-            let is_of_nothing = matches!(change, Change::Nothing | Change::EqualLegsSwapped);
-            let changed = changed_values(first, again);
-            assert_eq!(changed, usize::from(!is_of_nothing), "{change}");
+            let is_behind = matches!(change, Change::RailwayBehind | Change::FareBehind);
+            assert_eq!(changed_values(first, again), usize::from(is_behind));
         });
     }
 
@@ -499,7 +434,6 @@ mod tests {
             Change::CardsReordered,
             Change::CardTwice,
             Change::CardBehindAGap,
-            Change::EndsSwapped,
         ];
         changes.retain(|change| !of_several.contains(change));
         each(&changes, |change, first, again| {
@@ -512,7 +446,7 @@ mod tests {
         each(&[Change::LegsReordered], |_, first, again| {
             let sorted = |sent: &Sent| {
                 let mut legs = sent.question.legs;
-                legs.sort_by_key(|leg| (leg.railway, leg.fare, leg.from, leg.to));
+                legs.sort_by_key(|leg| (leg.railway, leg.fare));
                 legs
             };
             assert_eq!(first.question.leg_count, again.question.leg_count);
@@ -559,16 +493,9 @@ mod tests {
             change.applied(&mut random, &sale).is_some()
         };
         assert!(!has_room(1, Change::LegDropped) && has_room(2, Change::LegDropped));
-        assert!(!has_room(0, Change::StationMistyped(End::To)));
         assert!(!has_room(1, Change::LegsReordered));
         assert!(!has_room(8, Change::LegAdded) && has_room(7, Change::LegAdded));
         assert!(!has_room(8, Change::FareBehind) && has_room(7, Change::RailwayBehind));
         assert!(!has_room(3, Change::Fare(3)) && has_room(4, Change::Railway(3)));
-        for end in End::ALL {
-            let behind = Change::StationBehind(end);
-            assert!(!has_room(8, behind) && has_room(7, behind));
-            let station = Change::Station(Stop { leg: 3, end });
-            assert!(!has_room(3, station) && has_room(4, station));
-        }
     }
 }

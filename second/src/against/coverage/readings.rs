@@ -4,7 +4,7 @@ use super::{group, outcome_of, Coverage, Group};
 use super::{EDGES_OF_SEQUENCE, EDGES_OF_TILL, OUTCOMES, REFUSED};
 use crate::against::wire::{outcome, status, Answer, Call, Lent, Name};
 use crate::generate::books::POWERS_BEHIND;
-use crate::question::{Question, CARD_SLOTS, LEG_SLOTS};
+use crate::question::{CARD_SLOTS, LEG_SLOTS};
 
 const COUNT_TOLD: &str = "count told";
 const ENTRY_ASKED: &str = "entry asked";
@@ -22,8 +22,6 @@ const UNKNOWN: &str = "unknown";
 const UNUSED_READ: &str = "unused legs read";
 const SENT_AS_ZEROS: &str = "sent as zeros";
 const SENT_FILLED: &str = "sent filled";
-const STATIONS_ZERO: &str = "all zero";
-const STATIONS_SET: &str = "set";
 const LAST_OF_A_FULL_BOOK: u64 = 255;
 
 impl Coverage {
@@ -73,7 +71,6 @@ impl Coverage {
         let cards = answer.question.given_cards().len();
         self.meet(&read_by(name, "cards"), cards);
         self.meet(&read_by(name, "legs"), answer.question.leg_count);
-        self.meet(&read_by(name, "stations"), stations_of(&answer.question));
     }
 
     /// The book was read after a step of a history.
@@ -101,13 +98,6 @@ fn status_of(answer: &Answer) -> &'static str {
         (0, _) => CANCELLED,
         (25, _) => UNKNOWN,
         _ => REFUSED,
-    }
-}
-
-fn stations_of(question: &Question) -> &'static str {
-    match question.stops().any(|stop| question.station(stop) > 0) {
-        true => STATIONS_SET,
-        false => STATIONS_ZERO,
     }
 }
 
@@ -139,8 +129,6 @@ pub fn groups() -> Vec<Group> {
         groups.push(group(&read_by(name, "status"), &[LIVE, CANCELLED]));
         groups.push(group(&read_by(name, "cards"), &cards));
         groups.push(group(&read_by(name, "legs"), &legs));
-        let stations = [STATIONS_ZERO, STATIONS_SET];
-        groups.push(group(&read_by(name, "stations"), &stations));
     }
     for name in [Name::Count, Name::Entry, Name::Find] {
         groups.push(group(&read_after(name), &OUTCOMES));
@@ -188,14 +176,13 @@ mod tests {
     }
 
     #[test]
-    fn a_sale_read_is_met_by_the_call_its_status_its_cards_its_legs_and_its_stations() {
+    fn a_sale_read_is_met_by_the_call_its_status_its_cards_and_its_legs() {
         let lent = Lent::of(&[], &[]);
         let is_gap = gaps_after(|coverage| coverage.note(&Call::find(1, 2), &lent, &read()));
         assert!(!is_gap("find: answered") && is_gap("entry: answered"));
         assert!(!is_gap("find, status: cancelled") && is_gap("find, status: live"));
         assert!(!is_gap("find, cards: 2") && is_gap("find, cards: 0"));
         assert!(!is_gap("find, legs: 3") && is_gap("entry, legs: 3"));
-        assert!(!is_gap("find, stations: all zero") && is_gap("find, stations: set"));
     }
 
     #[test]

@@ -8,13 +8,13 @@ use native.Mathlib.Omega.{arith}
 use borrow.Author.Rules.{rules}
 use Rattle.common.specs.Lists.{every, first_of, up_to}
 use Rattle.common.proofs.Tests.{fails, holds}
-use Rattle.fares.specs.Question.{card_slots, cards_in_limits, cards_differ}
+use Rattle.fares.specs.Question.{leg_in_limits, card_slots, cards_in_limits, cards_differ}
 use Rattle.fares.specs.Helpers.{trip_in_limits}
 use Rattle.fares.specs.declared.Question.{Question}
 use Rattle.fares.proofs.QuestionLimits.{limits_apart, trip_few}
 use Rattle.book.specs.Words.{leg_of, question_of}
 use Rattle.book.specs.Sound.{asked_sound}
-use Rattle.book.specs.Helpers.{leg_sound, unused_zero}
+use Rattle.book.specs.Helpers.{unused_zero}
 use Rattle.book.proofs.UnusedWords.{sound_apart}
 use Rattle.book.proofs.sound.asked_sound.Statement.{statement}
 use Rattle.book.proofs.sound.asked_sound.Tie as tie
@@ -40,7 +40,7 @@ few c = trip_few _ _ _ _ (trip-in c)
 apart : (c : tie.Else1) → let w = words-at c in
     let q = asked c in
     asked_sound w
-    ≡ (cards_in_limits (card_slots q) && (cards_differ (card_slots q) && (unused_zero w q.count && every leg_sound (up_to (leg_of w) q.count))))
+    ≡ (cards_in_limits (card_slots q) && (cards_differ (card_slots q) && (unused_zero w q.count && every leg_in_limits (up_to (leg_of w) q.count))))
 apart c = sound_apart (words-at c) (start c).requires.0 (few c) ∙ rw (trip-in c)
 
 limited : (c : tie.After-cards-in-limits) → c.cards-in-limits.result ≡ cards_in_limits (card_slots (asked c.before))
@@ -89,7 +89,7 @@ returns-5 c =
     let u = c.before in
     let e = u.before.before in
     let d = e.before.before in
-    c.legs-sound.ensures ∙ sym (apart d.before.before ∙ rw (cards-in d, differ e, unused-in u))
+    c.legs-in-limits.ensures ∙ sym (apart d.before.before ∙ rw (cards-in d, differ e, unused-in u))
 
 pub asked-sound-spec : {M : Type 1} → statement M
 unfolding question_of

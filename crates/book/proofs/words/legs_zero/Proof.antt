@@ -11,7 +11,7 @@ use lib.Seq.{drop-cons}
 use borrow.Author.Rules.{rules}
 use Rattle.common.specs.Lists.{sum}
 use Rattle.common.proofs.Sums.{zero_sum}
-use Rattle.book.specs.Words.{railway_at, fare_at, from_at, to_at, question_width}
+use Rattle.book.specs.Words.{railway_at, fare_at, third_at, fourth_at, question_width}
 use Rattle.book.proofs.SoundBook.{most}
 use Rattle.book.proofs.words.legs_zero.Statement.{statement}
 use Rattle.book.proofs.words.legs_zero.Tie as tie
@@ -23,14 +23,14 @@ behind ws p r l e = rw (e, add-one, drop-cons ws p 0 l)
 
 leg-behind : (ws : List ℕ) (j : ℕ) → length ws ≡ question_width → j < 8
     → sum (drop (railway_at j) ws)
-    ≡ get_or ws (railway_at j) 0 + get_or ws (fare_at j) 0 + get_or ws (from_at j) 0 + get_or ws (to_at j) 0 + sum (drop (railway_at (j + 1)) ws)
+    ≡ get_or ws (railway_at j) 0 + get_or ws (fare_at j) 0 + get_or ws (third_at j) 0 + get_or ws (fourth_at j) 0 + sum (drop (railway_at (j + 1)) ws)
 leg-behind ws j long l =
     omega (
       arith,
       behind ws (railway_at j) (fare_at j) (omega arith) (omega arith),
-      behind ws (fare_at j) (from_at j) (omega arith) (omega arith),
-      behind ws (from_at j) (to_at j) (omega arith) (omega arith),
-      behind ws (to_at j) (railway_at (j + 1)) (omega arith) (omega arith),
+      behind ws (fare_at j) (third_at j) (omega arith) (omega arith),
+      behind ws (third_at j) (fourth_at j) (omega arith) (omega arith),
+      behind ws (fourth_at j) (railway_at (j + 1)) (omega arith) (omega arith),
     )
 
 abbrev invariant-loop : tie.invariant-loop
@@ -43,7 +43,7 @@ small : (c : tie.After-sum-of-four invariant-loop decreases-loop) → c.sum-of-f
 small c =
     let k = c.before.shared-slice-known5 in
     let j = c.before.before.before.before.before.before.loop.j in
-    omega (arith, c.sum-of-four.ensures, k.given (railway_at j), k.given (fare_at j), k.given (from_at j), k.given (to_at j))
+    omega (arith, c.sum-of-four.ensures, k.given (railway_at j), k.given (fare_at j), k.given (third_at j), k.given (fourth_at j))
 
 loop-again : tie.Need-loop-preserved invariant-loop decreases-loop
 loop-again c =

@@ -1,6 +1,6 @@
 -- `book::words::unused_zero` meets its contract.
 -- Assumes nothing.
-use mathlib.Core.Path.{◌≡◌, sym, ◌∙◌}
+use mathlib.Core.Path.{◌≡◌}
 use mathlib.Core.Bool.{true, and-true}
 use lib.ListN.{take, drop}
 use borrow.Author.Rules.{rules}
@@ -27,12 +27,20 @@ returns-2 c = rw (eq-eqb _ 0 c.before.before.before.if1.false, fails c.before.al
 returns-3 : tie.Need-returns-3
 unfolding unused_zero every
 returns-3 c =
-    let p = c.before in
-    c.legs-zero.ensures ∙ sym (rw (eq-eqb _ 0 p.before.before.before.if1.false, pairs-in p) (and-true _))
+    let p = c.before.before in
+    rw (eq-eqb _ 0 p.before.before.before.if1.false, pairs-in p, fails c.before.legs-zero.result c.if3.true c.before.legs-zero.ensures)
+
+returns-4 : tie.Need-returns-4
+unfolding unused_zero every
+returns-4 c =
+    let z = c.before.before in
+    let p = z.before in
+    let e = holds z.legs-zero.result c.before.if3.false z.legs-zero.ensures in
+    rw (eq-eqb _ 0 p.before.before.before.if1.false, pairs-in p, e, and-true) c.legs-clear.ensures
 
 pub unused-zero-spec : {M : Type 1} → statement M
 unused-zero-spec =
     tie.close
     (tie.spec
     (λ c. search rules) returns (λ c. search rules) (λ c. search rules) (λ c. search rules) (λ c κs. search rules) returns-2
-    (λ c κs. search rules) returns-3)
+    (λ c κs. search rules) returns-3 (λ c κs. search rules) returns-4)

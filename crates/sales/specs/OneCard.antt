@@ -1,16 +1,15 @@
--- THE BASE'S SALE, cancellation, balance and total: what they were, and left in the book, while a question had one card or none, and no station (document 01,
--- 'The sales book'). They differ from today's in when a book is sound, in the words of a question, and in its fare; and are kept to say that such a question is
--- answered as it was.
+-- THE BASE'S SALE, cancellation, balance and total: what they were, and left in the book, while a question had one card or none (document 01, 'The sales book').
+-- They differ from today's in when a book is sound, in the words of a question, and in its fare; and are kept to say that one card is answered as it was.
 -- Assumes nothing.
 use Rattle.std.specs.Prelude.{ℕ, cond}
 use mathlib.Core.List.{List, [], ◌∷◌, Memᴰ}
 use Rattle.common.specs.Checks.{Check}
 use Rattle.bundle.specs.Records.{records_of}
-use Rattle.fares.specs.Base.{OfTheBase, base_parts, base_checks}
+use Rattle.fares.specs.OneCard.{OneCard, base_parts, base_checks}
 use Rattle.fares.specs.declared.Question.{Question}
 use Rattle.book.specs.Words.{new_entry}
 use Rattle.book.specs.Changes.{added, cancelled_at}
-use Rattle.book.specs.Base.{plain_sound, base_words, base_sound}
+use Rattle.book.specs.OneCard.{base_words, base_sound}
 use Rattle.sales.specs.Sales.{place, sale_checks_by, sale_answer_by, is_booked_by, cancel_checks_by, cancel_answer_by, is_cancelled_by}
 use Rattle.sales.specs.Balances.{balance_checks_by, balance_by, total_checks_by, total_by}
 use Rattle.sales.specs.History.{Number, Op, sale, cancel}
@@ -43,19 +42,12 @@ base_after book [] = book
 base_after book (sale n bundle q ∷ ops) = base_after (base_sale_words book n.till n.sequence bundle q) ops
 base_after book (cancel n ∷ ops) = base_after (base_cancel_words book n.till n.sequence) ops
 
--- each sale among the operations is one of the base
-abbrev pub BaseOps : List Op → Type 0
-BaseOps ops = (n : Number) (bundle : List ℕ) (q : Question) → Memᴰ (sale n bundle q) ops → OfTheBase q
+-- each sale among the operations has one card or none
+abbrev pub OneCardOps : List Op → Type 0
+OneCardOps ops = (n : Number) (bundle : List ℕ) (q : Question) → Memᴰ (sale n bundle q) ops → OneCard q
 
 unfoldable pub base_balance : List ℕ → ℕ → Sum
 base_balance book railway = balance_by (balance_checks_by (base_sound book) railway) book railway
 
 unfoldable pub base_total : List ℕ → Sum
 base_total book = total_by (total_checks_by (base_sound book)) book
-
--- BEFORE R-14 a balance and the total differed from today's in when a book is sound alone
-unfoldable pub plain_balance : List ℕ → ℕ → Sum
-plain_balance book railway = balance_by (balance_checks_by (plain_sound book) railway) book railway
-
-unfoldable pub plain_total : List ℕ → Sum
-plain_total book = total_by (total_checks_by (plain_sound book)) book

@@ -1,4 +1,4 @@
--- A QUESTION WITHOUT STATIONS is asked well by the rule of before R-14; and ONE OF THE BASE has the base's limits, its parts and its first fault, and so its fare.
+-- ONE CARD OR NONE: the base's limits, its parts and its first fault, and so its fare.
 -- Assumes nothing.
 use Prim.Native.Nat.{ℕ, zero, suc, ◌-◌, ◌*◌, ◌<◌, zero-le}
 use mathlib.Core.Path.{◌≡◌, refl, sym, ◌∙◌, ap}
@@ -11,9 +11,9 @@ use lib.Seq.{ext_get_or}
 use borrow.Author.Tests.{le-leb}
 use Rattle.common.specs.Lists.{every, any, only}
 use Rattle.common.specs.Rising.{insert_all}
-use Rattle.common.specs.Checks.{clean, first_fault, each_from}
-use Rattle.common.proofs.Lists.{every_alike, first_length, first_at}
-use Rattle.common.proofs.Checks.{fault_append, after_clean}
+use Rattle.common.specs.Checks.{first_fault}
+use Rattle.common.proofs.Lists.{first_length, first_at}
+use Rattle.common.proofs.Checks.{fault_append}
 use Rattle.layout.specs.Layout.{CO, AR}
 use Rattle.layout.specs.Fields.{is_yes}
 use Rattle.bundle.specs.Records.{Rec, no_rec, records_of}
@@ -21,18 +21,15 @@ use Rattle.choice.specs.Choice.{choice_of}
 use Rattle.bundle.specs.Verdict.{checks}
 use Rattle.choice.specs.declared.Choice.{Choice}
 use Rattle.choice.specs.declared.Choice.TheVariants.{At, NotThatDay, Nothing}
-use Rattle.fares.specs.Stations.{station_checks}
-use Rattle.fares.specs.Question.{between, no_leg, leg_in_limits, legs_of, is_given, card_slots, cards_of, cards_in_limits, cards_differ, in_limits}
+use Rattle.fares.specs.Question.{between, legs_of, is_given, card_slots, cards_of, cards_in_limits, cards_differ, in_limits}
 use Rattle.fares.specs.Reductions.{conditions_grant, card_grants, reduce_by, reduce_all, part_bound}
 use Rattle.fares.specs.Cards.{after_cards}
-use Rattle.fares.specs.Legs.{wanted_for, conditions_for, found, bodies, body_of, card_for, cards_for, leg_checks, part_by, part_of}
-use Rattle.fares.specs.Fare.{parts_of, price_checks, well_asked, fare_checks, fare_of}
-use Rattle.fares.specs.Meaning.{card_at, StationsRight}
-use Rattle.fares.specs.Base.{NoStation, OfTheBase, base_leg_in_limits, plain_in_limits, plain_price, plain_checks, plain_fare, base_in_limits, base_part, base_parts, base_price, base_checks, base_fare, base_bound}
+use Rattle.fares.specs.Legs.{wanted_for, conditions_for, found, bodies, body_of, card_for, cards_for, part_by, part_of}
+use Rattle.fares.specs.Fare.{parts_of, price_checks, fare_checks, fare_of}
+use Rattle.fares.specs.Meaning.{card_at}
+use Rattle.fares.specs.OneCard.{OneCard, base_in_limits, base_part, base_parts, base_price, base_checks, base_fare, base_bound}
 use Rattle.fares.specs.declared.Leg.{Leg}
 use Rattle.fares.specs.declared.Question.{Question}
-use Rattle.fares.proofs.QuestionLimits.{leg_is, count_is}
-use Rattle.fares.proofs.StationLaws.{right_stations, mean_stations}
 use Rattle.fares.proofs.LegCards.{one_choice}
 
 -- the first slot decides
@@ -44,43 +41,7 @@ by_first c = rw (le-leb 0 c zero-le) (go (eqb c 0))
     go true = and-true (leb c 999)
     go false = and-true (leb c 999)
 
--- WITHOUT STATIONS: the limits of the legs, that no check digit is wrong, and the limits of the question
-module _ (q : Question) (n : NoStation q) where
-  no_stations : (k : ℕ) → k < q.count → ((get_or (legs_of q) k no_leg).from ≡ 0) × ((get_or (legs_of q) k no_leg).to ≡ 0)
-  no_stations k l = rw (leg_is q k l) (n k l)
-
-  pub legs_are : every leg_in_limits (legs_of q) ≡ every base_leg_in_limits (legs_of q)
-  legs_are =
-      every_alike leg_in_limits base_leg_in_limits no_leg (legs_of q)
-      (λ k l. let h = no_stations k (omega (arith, count_is q)) in rw (h.0, h.1, and-true))
-
-  pub stations_none : StationsRight q
-  stations_none k l = record { from = rw (n k l).0; to = rw (n k l).1 }
-
-  pub no_digit_wrong : first_fault (each_from 0 station_checks (legs_of q)) ≡ clean
-  no_digit_wrong = right_stations q stations_none
-
-  plain_limits : in_limits q ≡ plain_in_limits q
-  unfolding in_limits plain_in_limits
-  plain_limits = rw legs_are
-
-  pub plain_are : well_asked q ≡ (plain_in_limits q && cards_differ (card_slots q))
-  plain_are = rw (plain_limits, mean_stations q stations_none, and-true (cards_differ (card_slots q)))
-
-  -- so the first fault is that of before R-14, and the fare
-  module _ (s : List ℕ) where
-    pub plain_faults : first_fault (fare_checks s q) ≡ first_fault (plain_checks s q)
-    unfolding fare_checks price_checks plain_checks first_fault
-    plain_faults =
-        fault_append (checks s) (price_checks (records_of s) q)
-        ∙ rw (plain_limits, after_clean (each_from 0 station_checks (legs_of q)) (each_from 0 (leg_checks (records_of s) q) (legs_of q)) no_digit_wrong)
-        (sym (fault_append (checks s) (plain_price (records_of s) q)))
-
-    pub plain_fare_lem : fare_of s q ≡ plain_fare s q
-    unfolding fare_of plain_fare
-    plain_fare_lem = rw plain_faults
-
-module _ (q : Question) (o : OfTheBase q) where
+module _ (q : Question) (o : OneCard q) where
   -- ITS SLOTS
   pub slots_are : card_slots q ≡ card_at q 0 ∷ 0 ∷ 0 ∷ 0 ∷ []
   slots_are =
@@ -89,15 +50,15 @@ module _ (q : Question) (o : OfTheBase q) where
     where
       at : (k : ℕ) → k < 4 → card_at q k ≡ get_or (card_at q 0 ∷ 0 ∷ 0 ∷ 0 ∷ []) k 0
       at zero l = refl
-      at (suc zero) l = o.one_card 1 (omega arith) l
-      at (suc (suc zero)) l = o.one_card 2 (omega arith) l
-      at (suc (suc (suc zero))) l = o.one_card 3 (omega arith) l
+      at (suc zero) l = o 1 (omega arith) l
+      at (suc (suc zero)) l = o 2 (omega arith) l
+      at (suc (suc (suc zero))) l = o 3 (omega arith) l
       at (suc (suc (suc (suc k)))) l = absurd (omega arith)
 
   -- its limits, and that no card is given twice
   pub limits_are : in_limits q ≡ base_in_limits q
   unfolding in_limits base_in_limits
-  limits_are = rw (slots_are, by_first (card_at q 0), legs_are q o.no_station)
+  limits_are = rw (slots_are, by_first (card_at q 0))
 
   pub cards_apart : cards_differ (card_slots q) ≡ true
   unfolding cards_differ any
@@ -106,9 +67,6 @@ module _ (q : Question) (o : OfTheBase q) where
       go : (z : Bool) → (not (not z && (z || (z || (z || false)))) && true) ≡ true
       go true = refl
       go false = refl
-
-  pub well_are : well_asked q ≡ base_in_limits q
-  well_are = rw (limits_are, cards_apart, mean_stations q (stations_none q o.no_station), and-true (base_in_limits q))
 
   -- the bound on its parts
   pub bound_is : part_bound (length (cards_of q)) ≡ base_bound
@@ -155,11 +113,10 @@ module _ (q : Question) (o : OfTheBase q) where
   -- the first fault, and the fare
   module _ (s : List ℕ) where
     pub faults_are : first_fault (fare_checks s q) ≡ first_fault (base_checks s q)
-    unfolding plain_checks base_checks first_fault
+    unfolding fare_checks price_checks base_checks first_fault
     faults_are =
-        plain_faults q o.no_station s
-        ∙ (fault_append (checks s) (plain_price (records_of s) q)
-        ∙ rw (← plain_limits q o.no_station, limits_are, cards_apart) (sym (fault_append (checks s) (base_price (records_of s) q))))
+        fault_append (checks s) (price_checks (records_of s) q)
+        ∙ (rw (limits_are, cards_apart) (sym (fault_append (checks s) (base_price (records_of s) q))))
 
     pub fare_is : fare_of s q ≡ base_fare s q
     unfolding fare_of base_fare
