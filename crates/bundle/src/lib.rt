@@ -1,4 +1,6 @@
 // Many records: the walk over a bundle, its keys and links, and the verdict.
+#![tactic(auto)]
+
 ghost use Rattle.std.specs.Prelude.{◌≡◌};
 ghost use Rattle.bundle.specs.Verdict.{verdict_of};
 

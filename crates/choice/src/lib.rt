@@ -1,4 +1,6 @@
 // The record that is used for a leg.
+#![tactic(auto)]
+
 ghost use Rattle.std.specs.Prelude.{◌≡◌};
 ghost use Rattle.bundle.specs.Records.{rec, records_of};
 ghost use Rattle.choice.specs.Choice.{choice_of};

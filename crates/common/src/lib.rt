@@ -1,4 +1,6 @@
 // Searches, lists and refusals that every later crate cites. Nothing here knows of railways.
+#![tactic(auto)]
+
 ghost use Rattle.std.specs.Prelude.{◌≡◌, ◌+◌, ◌-◌, ◌<◌, ◌≤◌, ◌&&◌, length, take, drop, nat_le};
 ghost use Rattle.common.specs.Lists.{same, byte_at};
 ghost use Rattle.common.specs.Digits.{digit_0, is_digit, number_of, value_of, is_within};

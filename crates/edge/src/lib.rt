@@ -1,4 +1,6 @@
 // The engine's calls for C, as include/offers.h declares them: numbers and structs of numbers, no enums.
+#![tactic(auto)]
+
 ghost use Rattle.std.specs.Prelude.{◌≡◌, ◌∷◌};
 ghost use Rattle.bundle.specs.Verdict.{verdict_of};
 ghost use Rattle.fares.specs.Fare.{fare_of};

@@ -1,4 +1,6 @@
 // Reads a bundle from standard input and tells the verdict on it in words, for the railway that delivered it.
+#![tactic(auto)]
+
 use names::{field_names, words};
 use offers::Judgement;
 

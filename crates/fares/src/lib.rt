@@ -1,4 +1,6 @@
 // The fare of a ticket, leg by leg.
+#![tactic(auto)]
+
 ghost use Rattle.std.specs.Prelude.{◌≡◌};
 ghost use Rattle.bundle.specs.Records.{records_of};
 ghost use Rattle.fares.specs.Fare.{no_fare, fare_of};

@@ -1,4 +1,6 @@
 // One record: the tables, the layout of their fields, readers of fields by name, and the first field that breaks its rule.
+#![tactic(auto)]
+
 ghost use Rattle.std.specs.Prelude.{◌≡◌};
 ghost use Rattle.layout.specs.Layout.{length_of};
 

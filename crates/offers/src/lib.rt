@@ -33,6 +33,8 @@
 //            25  the number is not in the book
 //
 // crates/offers/specs/Answers.antt says each answer in these numbers and values; crates/offers/proofs/Promises.antt what is proved of them.
+#![tactic(auto)]
+
 ghost use Rattle.std.specs.Prelude.{◌≡◌};
 ghost use Rattle.bundle.specs.Verdict.{verdict_of};
 ghost use Rattle.fares.specs.Fare.{fare_of};

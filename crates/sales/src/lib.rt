@@ -1,4 +1,6 @@
 // Sales and cancellations, balances and the total: a sale that is sent again is never booked again.
+#![tactic(auto)]
+
 ghost use Rattle.std.specs.Prelude.{◌≡◌};
 ghost use Rattle.sales.specs.Sales.{sale_answer, sale_words, cancel_answer, cancel_words};
 ghost use Rattle.sales.specs.Balances.{balance_answer, total_answer};

@@ -1,4 +1,6 @@
 // A table of what was seen: values, each put into a slot under a number, and found again by it. Nothing here knows of railways.
+#![tactic(auto)]
+
 ghost use Rattle.std.specs.Prelude.{◌≡◌, get_or};
 ghost use Rattle.seen.specs.Seen.{home_of, slot_behind, tag_of, has_tag, value_at, IsPut};
 

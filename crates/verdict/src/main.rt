@@ -1,4 +1,6 @@
 // Reads a bundle from standard input and writes the verdict on it as one line.
+#![tactic(auto)]
+
 ghost use Rattle.std.specs.Prelude.{◌≡◌};
 ghost use Rattle.verdict.specs.Program.{program_verdict};
 

@@ -1,5 +1,7 @@
 // A day of one till, sold from the bundle on standard input: a sale, the sale sent again, its cancellation, the sale sent again; and a family's sale with
 // two cards, sent again with the cards the other way round.
+#![tactic(auto)]
+
 use offers::{Leg, Outcome, Question, Receipt, Refusal, Sum};
 
 // One ticket over two railways.

@@ -4,8 +4,7 @@ use Rattle.std.proofs.Common.{◌≡◌, ℕ, ◌+◌, ◌-◌, ◌%◌, ◌^◌
 use borrow.Author.Tests.{lt-leb}
 use Rattle.common.specs.Digits.{digit_0, digit_9, is_digit}
 use Rattle.common.proofs.Tests.{side}
-use Rattle.common.proofs.digit.Statement.{statement}
-use Rattle.common.proofs.digit.Tie as tie
+use Rattle.common.proofs.digit.Goals as goal
 
 none : (r b : ℕ) → (r + digit_0) % 2 ^ 32 ≡ b → r < 2 ^ 32 → 9 < r → is_digit b ≡ false
 none r b e f h =
@@ -16,5 +15,5 @@ tells r b e f =
     ⊎_elim (λ h. (rw (lt-leb r 9 h, none r b e f h), λ l. absurd (omega arith)))
     (λ h. (rw (le-leb r 9 h, le-leb digit_0 b (omega arith), le-leb b digit_9 (omega arith)), λ l. omega arith)) (side 9 r)
 
-pub digit-spec : {M : Type 1} → statement M
-digit-spec = tie.close (tie.spec (λ c κs. search rules) (λ c. tells _ _ c.wrapping-sub-u32.ensures (search rules)))
+pub returns : goal.returns
+returns c = tells _ _ c.wrapping_sub_u32.ensures.value (search rules)

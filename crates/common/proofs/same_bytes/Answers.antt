@@ -1,0 +1,57 @@
+-- `common::same_bytes` meets its contract. The invariant of both loops: the bytes passed are the same.
+-- Assumes nothing.
+use Rattle.std.proofs.Common.{◌≡◌, ℕ, ◌-◌, ◌<◌, ◌≤◌, List, length, get_or, sym, ap, ◌∙◌, arith, ext_get_or, rules, below_none, below_more}
+use Rattle.common.specs.Helpers.{four_at}
+use Rattle.common.proofs.Lists.{is_same, not_same}
+use Rattle.common.proofs.Fours.{four_more}
+use Rattle.common.proofs.same_bytes.Invariants.{SameBelow}
+use Rattle.common.proofs.same_bytes.Goals as goal
+
+pub returns-then-a-b : goal.returns-then-a-b
+returns-then-a-b c = sym (not_same _ _ (λ e. c.if-a-b.true (ap length e)))
+
+pub loop-i-init : goal.loop-i-init
+loop-i-init c = (omega arith, c.if-a-b.false, below_none _)
+
+pub overflow_sub-n : goal.overflow_sub-n
+overflow_sub-n c = omega arith
+
+pub four_at-requires : goal.four_at-requires
+four_at-requires c = omega arith
+
+pub four_at-requires-in-loop-i : goal.four_at-requires-in-loop-i
+four_at-requires-in-loop-i c = omega arith
+
+pub returns-then-four_at : goal.returns-then-four_at
+returns-then-four_at c =
+    let i = c.loop-i.i in
+    sym (not_same _ _ (λ e. c.if-four_at.true (c.four_at.ensures ∙ (ap (four_at i) e ∙ sym c.four_at-in-loop-i.ensures))))
+
+pub overflow_add-i : goal.overflow_add-i
+overflow_add-i c = omega arith
+
+pub loop-i-smaller : goal.loop-i-smaller
+loop-i-smaller c = omega arith
+
+pub loop-i-preserved : goal.loop-i-preserved
+loop-i-preserved c =
+    let x = c.args in
+    let bytes-a : (k : ℕ) → get_or x.a.now k 0 < 256 = λ k. omega (arith, c.shared_slice_known-1.given k) in
+    let bytes-b : (k : ℕ) → get_or x.b.now k 0 < 256 = λ k. omega (arith, c.shared_slice_known-2-1.given k) in
+    let e = sym c.four_at.ensures ∙ (c.if-four_at.false ∙ c.four_at-in-loop-i.ensures) in
+    (omega arith, c.loop-i.invariant.1, four_more x.a.now x.b.now bytes-a bytes-b c.loop-i.i c.loop-i.invariant.2 e)
+
+pub loop-i-2-init : goal.loop-i-2-init
+loop-i-2-init c = c.loop-i.invariant
+
+pub bounds-b-i : goal.bounds-b-i
+bounds-b-i c = omega arith
+
+pub returns-then-a-i : goal.returns-then-a-i
+returns-then-a-i c = sym (not_same _ _ (λ e. c.if-a-i.true (rw e)))
+
+pub loop-i-2-preserved : goal.loop-i-2-preserved
+loop-i-2-preserved c = (omega arith, c.loop-i-2.invariant.1, below_more _ _ c.loop-i-2.invariant.2 c.if-a-i.false)
+
+pub returns : goal.returns
+returns c = sym (is_same _ _ (ext_get_or 0 _ _ c.loop-i-2.invariant.1 (λ k h. c.loop-i-2.invariant.2 k (omega arith))))
