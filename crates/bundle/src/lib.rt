@@ -13,7 +13,7 @@ mod room;
 pub mod walk;
 
 // The verdict on a bundle: how many records it has, or the first fault.
-#[derive(Drop)]
+#[derive(Clone, Copy)]
 pub enum Judgement {
     Accepted(usize),
     Refused(common::Refusal),

@@ -8,7 +8,7 @@ ghost use Rattle.bundle.specs.Hints.{IsPlace, Hinted, serves_at, Found, SearchTe
 use super::walk::Step;
 
 // A record of `table`, or a CO whose field `flag` is Y, wants a record of `wants` that is joined with it; else the detail is told.
-#[derive(Drop)]
+#[derive(Clone, Copy)]
 pub struct Link {
     pub table: u32,
     pub flag: u32,

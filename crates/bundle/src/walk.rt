@@ -5,7 +5,7 @@ ghost use Rattle.bundle.specs.Helpers.{is_mark, step_at, body_at, place_behind};
 
 // What stands at a place of a bundle: no known mark, too few bytes for its record, or a whole record: its table, where its body starts and
 // where the next record does.
-#[derive(Drop)]
+#[derive(Clone, Copy)]
 pub enum Step {
     Unknown,
     Short,

@@ -9,7 +9,7 @@ ghost use Rattle.choice.specs.Helpers.{at_place, whose_of, fit_of, noted_at};
 use bundle::walk::Step;
 
 // What is wanted of a record: its table, and the offer, railway, code and day that are asked for. The code of a table that has none is not looked at.
-#[derive(Drop)]
+#[derive(Clone, Copy)]
 pub struct Wanted {
     pub table: u32,
     pub offer: u32,
@@ -19,7 +19,7 @@ pub struct Wanted {
 }
 
 // The place of its mark in the bundle; or there are some, of which none is valid that day; or there is none.
-#[derive(Drop)]
+#[derive(Clone, Copy)]
 pub enum Choice {
     At(usize),
     NotThatDay,

@@ -11,14 +11,14 @@ ghost use Rattle.common.specs.Helpers.{four_bytes, four_at};
 pub mod check_digit;
 
 // What a few bytes say as a decimal number.
-#[derive(Drop)]
+#[derive(Clone, Copy)]
 pub enum Num {
     Is(u32),
     Not,
 }
 
 // Why work is turned away: the number of the check that failed, its place and its detail.
-#[derive(Drop)]
+#[derive(Clone, Copy)]
 pub struct Refusal {
     pub number: u8,
     pub place: usize,

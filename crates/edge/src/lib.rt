@@ -15,7 +15,7 @@ use offers::{Booking, Judgement, Lookup, Outcome, Pricing, Question, Quote, Rece
 
 // Each reply has number, place and detail of a refusal, all 0 where there is none, and then the values.
 #[repr(C)]
-#[derive(Drop)]
+#[derive(Clone, Copy)]
 pub struct JudgementReply {
     pub number: u64,
     pub place: u64,
@@ -24,7 +24,7 @@ pub struct JudgementReply {
 }
 
 #[repr(C)]
-#[derive(Drop)]
+#[derive(Clone, Copy)]
 pub struct QuoteReply {
     pub number: u64,
     pub place: u64,
@@ -34,7 +34,7 @@ pub struct QuoteReply {
 }
 
 #[repr(C)]
-#[derive(Drop)]
+#[derive(Clone, Copy)]
 pub struct ReceiptReply {
     pub number: u64,
     pub place: u64,
@@ -45,7 +45,7 @@ pub struct ReceiptReply {
 }
 
 #[repr(C)]
-#[derive(Drop)]
+#[derive(Clone, Copy)]
 pub struct SumReply {
     pub number: u64,
     pub place: u64,
@@ -54,7 +54,7 @@ pub struct SumReply {
 }
 
 #[repr(C)]
-#[derive(Drop)]
+#[derive(Clone, Copy)]
 pub struct TallyReply {
     pub number: u64,
     pub place: u64,
@@ -63,7 +63,7 @@ pub struct TallyReply {
 }
 
 #[repr(C)]
-#[derive(Drop)]
+#[derive(Clone, Copy)]
 pub struct BookingReply {
     pub number: u64,
     pub place: u64,

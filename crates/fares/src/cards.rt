@@ -12,14 +12,14 @@ use super::reductions::reduce;
 use layout::fields::Grant;
 
 // A record that is applied together with others: its rating and then its code say where it stands among them.
-#[derive(Drop)]
+#[derive(Clone, Copy)]
 pub struct Step {
     pub rank: u32,
     pub grant: Grant,
 }
 
 // Those that are applied together, in rising order.
-#[derive(Drop)]
+#[derive(Clone, Copy)]
 pub struct Row {
     pub count: usize,
     pub steps: [Step; 4],

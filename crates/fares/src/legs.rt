@@ -11,7 +11,7 @@ use super::{Leg, Question};
 use choice::Choice;
 
 // A leg's part of the fare, or why it is refused.
-#[derive(Drop)]
+#[derive(Clone, Copy)]
 pub enum Priced {
     Part(u32),
     Refused(common::Refusal),

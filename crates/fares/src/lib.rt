@@ -15,7 +15,7 @@ mod rounding;
 
 // A leg: its railway, and the plain fare per person in cents.
 #[repr(C)]
-#[derive(Drop)]
+#[derive(Clone, Copy)]
 pub struct Leg {
     pub railway: u32,
     pub fare: u32,
@@ -23,7 +23,7 @@ pub struct Leg {
 
 // What is asked: `day` is a number YYYYMMDD, a card 0 is none, and legs from `count` on are not looked at.
 #[repr(C)]
-#[derive(Drop)]
+#[derive(Clone, Copy)]
 pub struct Question {
     pub offer: u32,
     pub day: u32,
@@ -34,14 +34,14 @@ pub struct Question {
 }
 
 // Whether a fare was found, or why not.
-#[derive(Drop)]
+#[derive(Clone, Copy)]
 pub enum Pricing {
     Priced,
     Refused(common::Refusal),
 }
 
 // The parts of the legs in cents, zeros after them, and the fare as their sum; all zero where it is refused.
-#[derive(Drop)]
+#[derive(Clone, Copy)]
 pub struct Quote {
     pub outcome: Pricing,
     pub fare: u64,

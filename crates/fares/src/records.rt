@@ -9,14 +9,14 @@ use super::{Leg, Question};
 use choice::{Choice, Wanted};
 
 // The AR records that apply, in the order of the cards, by the places of their marks.
-#[derive(Drop)]
+#[derive(Clone, Copy)]
 pub struct Cards {
     pub count: usize,
     pub at: [usize; 4],
 }
 
 // The CO by the place of its mark, and the AR records that apply.
-#[derive(Drop)]
+#[derive(Clone, Copy)]
 pub struct LegRecords {
     pub conditions: Choice,
     pub cards: Cards,

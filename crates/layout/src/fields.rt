@@ -47,7 +47,7 @@ pub fn railway(body: &[u8]) -> &[u8]
 }
 
 // Where a table's code stands and how many bytes it has, none for a table that has no code.
-#[derive(Drop)]
+#[derive(Clone, Copy)]
 struct Span(usize, usize);
 
 fn code_span(table: u32) -> Span
@@ -241,7 +241,7 @@ pub fn card_code(ar: &[u8]) -> u32
 }
 
 // What a record grants: the discount in thousandths of a percent, the rounding byte and the factor.
-#[derive(Drop)]
+#[derive(Clone, Copy)]
 pub struct Grant {
     pub discount: u32,
     pub mode: u8,

@@ -76,7 +76,7 @@ const LAYOUT: [[u32; 7]; ROWS] = [
 ];
 
 // A row by its parts: `least` and `most` are the limits of a number.
-#[derive(Drop)]
+#[derive(Clone, Copy)]
 pub struct Row {
     pub field: u32,
     pub start: usize,

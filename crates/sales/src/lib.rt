@@ -9,7 +9,7 @@ mod judged;
 pub mod reading;
 
 // What came of a sale or a cancellation; `AlreadyBooked` has the status of the entry, 1 if it is cancelled.
-#[derive(Drop)]
+#[derive(Clone, Copy)]
 pub enum Outcome {
     Booked,
     AlreadyBooked(u32),
@@ -19,28 +19,28 @@ pub enum Outcome {
 }
 
 // The outcome with the sale's parts; all zero where it is refused.
-#[derive(Drop)]
+#[derive(Clone, Copy)]
 pub struct Receipt {
     pub outcome: Outcome,
     pub parts: [u32; 8],
 }
 
 // A balance or a total in cents, or why there is none.
-#[derive(Drop)]
+#[derive(Clone, Copy)]
 pub enum Sum {
     Amount(u64),
     Refused(common::Refusal),
 }
 
 // How many sales a book has, or why that is not told.
-#[derive(Drop)]
+#[derive(Clone, Copy)]
 pub enum Tally {
     Entries(usize),
     Refused(common::Refusal),
 }
 
 // Whether a sale was found in a book, or why not.
-#[derive(Drop)]
+#[derive(Clone, Copy)]
 pub enum Lookup {
     Found,
     Refused(common::Refusal),
@@ -48,7 +48,7 @@ pub enum Lookup {
 
 // A sale as a book has it: which entry it is, its number, what was asked, the parts as first priced, and the status, 1 if it is cancelled. All zero
 // where it is refused.
-#[derive(Drop)]
+#[derive(Clone, Copy)]
 pub struct Booking {
     pub outcome: Lookup,
     pub entry: usize,

@@ -10,7 +10,7 @@ use common::Refusal;
 use fares::{Leg, Question};
 
 // Where the sale of a number stands, or why that is not told.
-#[derive(Drop)]
+#[derive(Clone, Copy)]
 pub enum Looked {
     At(usize),
     Refused(Refusal),

@@ -1,0 +1,9 @@
+-- `layout::company::company_of` meets its contract.
+-- Assumes nothing.
+use Rattle.layout.specs.Company.{company_of}
+use borrow.Author.Rules.{rules}
+use Rattle.layout.proofs.company.company_of.Goals as goal
+
+pub returns : goal.returns
+unfolding company_of
+returns c = rw (c.value.ensures, c.number.ensures)

@@ -1,0 +1,7 @@
+-- `layout::fields::field` meets its contract.
+-- Assumes nothing.
+use borrow.Author.Rules.{rules}
+use Rattle.layout.proofs.fields.field.Goals as goal
+
+pub returns : goal.returns
+returns c = rw (c.part.ensures, c.less.ensures)

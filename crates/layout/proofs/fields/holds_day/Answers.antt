@@ -1,0 +1,20 @@
+-- `layout::fields::holds_day` meets its contract: every table has a period.
+-- Assumes nothing.
+use borrow.Author.Rules.{rules}
+use borrow.Author.Tests.{le-leb, lt-leb}
+use Rattle.common.specs.Lists.{any}
+use Rattle.layout.specs.Fields.{has_period, holds_day}
+use Rattle.layout.proofs.Tables.{no_table_lem, period}
+use Rattle.layout.proofs.fields.holds_day.Goals as goal
+
+pub returns-then-table-ge-TABLES : goal.returns-then-table-ge-TABLES
+unfolding holds_day has_period any
+returns-then-table-ge-TABLES c = rw (no_table_lem _ c.if-table-ge-TABLES.true)
+
+pub returns-then-day-first_day : goal.returns-then-day-first_day
+unfolding holds_day
+returns-then-day-first_day c = rw ((period _ c.if-table-ge-TABLES.false).has, ← c.first_day.ensures, lt-leb _ _ c.if-day-first_day.true)
+
+pub returns : goal.returns
+unfolding holds_day
+returns c = rw ((period _ c.if-table-ge-TABLES.false).has, ← c.first_day.ensures, le-leb _ _ c.if-day-first_day.false, ← c.last_day.ensures)

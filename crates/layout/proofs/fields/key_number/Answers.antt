@@ -1,0 +1,9 @@
+-- `layout::fields::key_number` meets its contract.
+-- Assumes nothing.
+use borrow.Author.Rules.{rules}
+use Rattle.layout.specs.Helpers.{key_number}
+use Rattle.layout.proofs.fields.key_number.Goals as goal
+
+pub returns : goal.returns
+unfolding key_number
+returns c = rw (c.rank.ensures.0, c.field.ensures, c.key_length.ensures)

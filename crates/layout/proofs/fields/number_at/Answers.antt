@@ -1,0 +1,7 @@
+-- `layout::fields::number_at` meets its contract.
+-- Assumes nothing.
+use borrow.Author.Rules.{rules}
+use Rattle.layout.proofs.fields.number_at.Goals as goal
+
+pub returns : goal.returns
+returns c = rw (c.value.ensures, c.number.ensures, c.field.ensures)
