@@ -11,15 +11,15 @@ returns-then-heads-slot c =
 
 pub returns-then-lows-slot : goal.returns-then-lows-slot
 returns-then-lows-slot c =
-    let a = (start c).args in
+    let a = c.args in
     no_low a.heads.now a.lows.now a.slot a.number a.value c.if-heads-slot.false c.if-lows-slot.true
 
 pub returns-then-value-ge-VALUES : goal.returns-then-value-ge-VALUES
 returns-then-value-ge-VALUES c =
-    let a = (start c).args in
+    let a = c.args in
     too_great a.heads.now a.lows.now a.slot a.number a.value c.if-heads-slot.false c.if-lows-slot.false c.if-value-ge-VALUES.true
 
 pub returns : goal.returns
 returns c =
-    let a = (start c).args in
+    let a = c.args in
     rw c.tag_of.ensures (is_room_lem a.heads.now a.lows.now a.slot a.number a.value c.if-heads-slot.false c.if-lows-slot.false c.if-value-ge-VALUES.false)
