@@ -203,10 +203,10 @@ module _ (s : List ℕ) (p : ℕ) where
   unfolding step_at
   short_there q e = moved_short (step_of (drop p s)) (sym q ∙ e)
 
-  pub over_there : (v : Step) → OneOf (0 ∷ 1 ∷ []) (tag_of the_type v) → v ≡ step_at s p → Over (drop p s)
+  pub over_there : (v : Step) → ((t start next : ℕ) → v ≡ Whole t start next → ⊥) → v ≡ step_at s p → Over (drop p s)
   over_there Unknown x q = unknown (unknown_there q refl)
   over_there Short x q = short (short_there q refl)
-  over_there (Whole t start next) x q = ⊎_elim (λ h. absurd (omega arith)) (λ h. absurd (omega arith)) x
+  over_there (Whole t start next) x q = absurd (x t start next refl)
 
   -- a record lies in the bundle wherever the step was made
   moved_lies : (v : Step) (t start next : ℕ) → step_of (drop p s) ≡ v → moved p v ≡ Whole t start next → (start ≤ next) × (next ≤ length s)

@@ -1,0 +1,36 @@
+-- `bundle::apart::free_slot` meets its contract. The loop's invariant: the slot is that of try k of the number, and those before it are passed.
+-- Assumes nothing.
+use Prim.Native.Nat.{◌-◌}
+use mathlib.Core.Path.{◌≡◌, sym, ◌∙◌}
+use native.Mathlib.Omega.{arith}
+use lib.ListN.{length}
+use borrow.Author.Rules.{rules}
+use Rattle.seen.specs.Seen.{slot_of}
+use Rattle.bundle.specs.Records.{rec}
+use Rattle.bundle.specs.Apart.{Passed}
+use Rattle.bundle.proofs.KeptPlaces.{way_on}
+use Rattle.bundle.proofs.apart.free_slot.Goals as goal
+
+pub loop-k-init : goal.loop-k-init
+unfolding slot_of
+loop-k-init c = (c.home-slot.ensures, λ j l. absurd (omega arith))
+
+pub returns-then-head_at-eq0 : goal.returns-then-head_at-eq0
+returns-then-head_at-eq0 c =
+    λ inside. let l = c.loop-k in
+    (l.k, l.invariant.0, sym c.head_at.ensures ∙ c.if-head_at-eq0.true, l.invariant.1)
+
+pub returns-then-slot_clashes : goal.returns-then-slot_clashes
+returns-then-slot_clashes c = λ inside. absurd (omega arith)
+
+pub loop-k-smaller : goal.loop-k-smaller
+loop-k-smaller c = omega arith
+
+pub loop-k-preserved : goal.loop-k-preserved
+loop-k-preserved c =
+    let l = c.loop-k in
+    let a = c.args in
+    way_on a.bundle.now a.heads.now a.lows.now a.number (rec a.table a.r.now) l.slot l.k l.invariant.0 l.invariant.1 c.head_at.ensures c.if-head_at-eq0.false c.slot_clashes.ensures c.if-slot_clashes.false c.slot_behind-slot.ensures
+
+pub returns : goal.returns
+returns c = λ inside. absurd (omega arith)

@@ -1,0 +1,11 @@
+-- `bundle::apart::is_apart` meets its contract.
+-- Assumes nothing.
+use borrow.Author.Rules.{rules}
+use Rattle.bundle.specs.Records.{rec}
+use Rattle.bundle.proofs.KeptPlaces.{put_tells}
+use Rattle.bundle.proofs.apart.is_apart.Goals as goal
+
+pub returns : goal.returns
+returns c =
+    let a = c.args in
+    put_tells a.bundle.now a.heads.now a.lows.now (rec a.table a.r.now) c.free_slot-slot.result a.at c.key_number-number.ensures c.free_slot-slot.ensures c.put.ensures

@@ -1,0 +1,9 @@
+-- `bundle::hints::number` meets its contract.
+-- Assumes nothing.
+use borrow.Author.Rules.{rules}
+use Rattle.bundle.specs.Hints.{hint_number}
+use Rattle.bundle.proofs.hints.number.Goals as goal
+
+pub returns : goal.returns
+unfolding hint_number
+returns c = rw (c.rank.ensures.0, c.name.ensures)

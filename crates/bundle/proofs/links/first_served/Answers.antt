@@ -1,0 +1,74 @@
+-- `bundle::links::first_served` meets its contract. The loop's invariant: the loop stands at record i, and the records from it on decide.
+-- Assumes nothing.
+use Prim.Native.Nat.{ℕ, ◌+◌, ◌-◌}
+use mathlib.Core.Path.{◌≡◌, refl, sym, ◌∙◌}
+use mathlib.Core.Bool.{false}
+use native.Mathlib.Omega.{arith}
+use lib.ListN.{length, drop}
+use borrow.Author.Rules.{rules}
+use Rattle.common.specs.Lists.{any}
+use Rattle.common.proofs.Lists.{at_any}
+use Rattle.bundle.specs.Records.{rec, no_rec, between, records_of}
+use Rattle.bundle.specs.Links.{serves}
+use Rattle.bundle.proofs.Here.{Here, Stands, here_start, stands, over_there, over_nil}
+use Rattle.bundle.proofs.PassLaws.{not_wanted}
+use Rattle.bundle.proofs.links.first_served.Goals as goal
+
+pub loop-t-init : goal.loop-t-init
+loop-t-init c = (0, here_start _, refl)
+
+pub returns-in_default : goal.returns-in_default
+unfolding any
+returns-in_default c =
+    let i = c.loop-t.invariant in
+    let o = over_nil _ _ _ i.1 (over_there _ _ c.step_at-here.result c.in_default.not-Whole c.step_at-here.ensures) in
+    ((λ l. absurd (omega arith)), λ l. i.2 ∙ rw o)
+
+pub slice_bounds-serves_it-count : goal.slice_bounds-serves_it-count
+slice_bounds-serves_it-count c =
+    let found : Stands c.args.bundle.now c.loop-t.at c.loop-t.invariant.0 c.in-Whole.t c.in-Whole.start c.in-Whole.next = stands _ _ _ c.loop-t.invariant.1 c.step_at-here.ensures c.in-Whole.is in
+    found.ends
+
+pub slice_bounds-serves_it-start : goal.slice_bounds-serves_it-start
+slice_bounds-serves_it-start c =
+    let found : Stands c.args.bundle.now c.loop-t.at c.loop-t.invariant.0 c.in-Whole.t c.in-Whole.start c.in-Whole.next = stands _ _ _ c.loop-t.invariant.1 c.step_at-here.ensures c.in-Whole.is in
+    let w = found in omega (arith, w.ends, w.inside)
+
+pub slice_bounds-serves_it-end : goal.slice_bounds-serves_it-end
+slice_bounds-serves_it-end c =
+    let found : Stands c.args.bundle.now c.loop-t.at c.loop-t.invariant.0 c.in-Whole.t c.in-Whole.start c.in-Whole.next = stands _ _ _ c.loop-t.invariant.1 c.step_at-here.ensures c.in-Whole.is in
+    found.inside
+
+pub returns-then-serves_it : goal.returns-then-serves_it
+returns-then-serves_it c =
+    let found : Stands c.args.bundle.now c.loop-t.at c.loop-t.invariant.0 c.in-Whole.t c.in-Whole.start c.in-Whole.next = stands _ _ _ c.loop-t.invariant.1 c.step_at-here.ensures c.in-Whole.is in
+    let w = found in
+    let i = c.loop-t.invariant in (
+      (λ l. ((i.0, w.place), at_any _ no_rec _ i.0 w.below (rw w.at (sym c.serves_it.ensures ∙ c.if-serves_it.true)))),
+      λ l. absurd (omega (arith, w.starts, w.ends, w.inside)),
+    )
+
+pub loop-t-smaller-else-serves_it : goal.loop-t-smaller-else-serves_it
+loop-t-smaller-else-serves_it c =
+    let found : Stands c.args.bundle.now c.loop-t.at c.loop-t.invariant.0 c.in-Whole.t c.in-Whole.start c.in-Whole.next = stands _ _ _ c.loop-t.invariant.1 c.step_at-here.ensures c.in-Whole.is in
+    let w = found in omega (arith, w.starts, w.ends, w.inside)
+
+-- the record is of the table that is wanted and does not serve, or it is of another
+pub loop-t-preserved-else-serves_it : goal.loop-t-preserved-else-serves_it
+unfolding any
+loop-t-preserved-else-serves_it c =
+    let found : Stands c.args.bundle.now c.loop-t.at c.loop-t.invariant.0 c.in-Whole.t c.in-Whole.start c.in-Whole.next = stands _ _ _ c.loop-t.invariant.1 c.step_at-here.ensures c.in-Whole.is in
+    let passed : let a = c.args in let p = serves a.link (rec a.table a.r.now) in false ≡ p (rec c.in-Whole.t (between c.in-Whole.start c.in-Whole.next a.bundle.now)) → any p (records_of a.bundle.now) ≡ any p (drop (c.loop-t.invariant.0 + 1) (records_of a.bundle.now)) = λ q. c.loop-t.invariant.2 ∙ rw (found.cons, ← q) in
+    (c.loop-t.invariant.0 + 1, found.then, passed (sym c.if-serves_it.false ∙ c.serves_it.ensures))
+
+pub loop-t-smaller : goal.loop-t-smaller
+loop-t-smaller c =
+    let found : Stands c.args.bundle.now c.loop-t.at c.loop-t.invariant.0 c.in-Whole.t c.in-Whole.start c.in-Whole.next = stands _ _ _ c.loop-t.invariant.1 c.step_at-here.ensures c.in-Whole.is in
+    let w = found in omega (arith, w.starts, w.ends, w.inside)
+
+pub loop-t-preserved : goal.loop-t-preserved
+unfolding any
+loop-t-preserved c =
+    let found : Stands c.args.bundle.now c.loop-t.at c.loop-t.invariant.0 c.in-Whole.t c.in-Whole.start c.in-Whole.next = stands _ _ _ c.loop-t.invariant.1 c.step_at-here.ensures c.in-Whole.is in
+    let passed : let a = c.args in let p = serves a.link (rec a.table a.r.now) in false ≡ p (rec c.in-Whole.t (between c.in-Whole.start c.in-Whole.next a.bundle.now)) → any p (records_of a.bundle.now) ≡ any p (drop (c.loop-t.invariant.0 + 1) (records_of a.bundle.now)) = λ q. c.loop-t.invariant.2 ∙ rw (found.cons, ← q) in
+    (c.loop-t.invariant.0 + 1, found.then, passed (not_wanted _ _ _ c.if-t-link.false))

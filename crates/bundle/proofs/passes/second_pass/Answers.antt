@@ -1,0 +1,224 @@
+-- `bundle::passes::second_pass` meets its contract. The outer loop stands at record i, the pass finds what it finds from there on, the records
+-- before are kept unless it says so no more, and the hints are places; the inner loop stands at record j, and record i clashes with none before it.
+-- Assumes nothing.
+use Prim.Native.Nat.{ℕ, ◌+◌, ◌-◌, ◌≤◌}
+use mathlib.Core.Path.{◌≡◌, refl, sym, ◌∙◌, ap}
+use mathlib.Core.Bool.{true, false, not}
+use mathlib.Core.Logic.{⊎_elim}
+use mathlib.Core.List.{List}
+use native.Mathlib.Omega.{arith}
+use lib.ListN.{length, get_or}
+use borrow.Author.Rules.{rules}
+use Rattle.common.specs.Checks.{refuse, first_fault}
+use Rattle.common.specs.Least.{least}
+use Rattle.common.proofs.Checks.{as_found}
+use Rattle.common.proofs.Tests.{never}
+use Rattle.common.proofs.Least.{start as none_yet, more, hit}
+use Rattle.bundle.specs.Records.{Rec, rec, no_rec, between, records_of}
+use Rattle.bundle.specs.Keys.{clash, other_transferor, earlier_of}
+use Rattle.bundle.specs.Links.{link_rows, no_link}
+use Rattle.bundle.specs.declared.links.Link.{Link}
+use Rattle.bundle.specs.Verdict.{second_pass}
+use Rattle.bundle.specs.Hints.{Hinted}
+use Rattle.bundle.specs.Apart.{Kept}
+use Rattle.bundle.specs.declared.Judgement.TheVariants.{Refused}
+use Rattle.bundle.proofs.Here.{Here, Stands, here_start, stands, over_there, over_nil, over_count}
+use Rattle.bundle.proofs.PassLaws.{second_from, second_start, second_end, other_fault, key_fault, link_fault, record_passes, compared}
+use Rattle.bundle.proofs.passes.second_pass.Goals as goal
+
+pub records-init : goal.records-init
+records-init c = (here_start _, second_start _, (λ t j l. absurd (omega arith)), c.requires, refl, refl, refl)
+
+pub slice_bounds-r-count : goal.slice_bounds-r-count
+slice_bounds-r-count c =
+    let bundle-of : List ℕ = c.args.bundle.now in
+    let found : Stands (bundle-of) c.records.at c.records.i c.in-Whole.table c.in-Whole.start c.in-Whole.next = stands _ _ _ c.records.invariant.0 c.step_at-here.ensures c.in-Whole.is in
+    found.ends
+
+pub slice_bounds-r-start : goal.slice_bounds-r-start
+slice_bounds-r-start c =
+    let bundle-of : List ℕ = c.args.bundle.now in
+    let found : Stands (bundle-of) c.records.at c.records.i c.in-Whole.table c.in-Whole.start c.in-Whole.next = stands _ _ _ c.records.invariant.0 c.step_at-here.ensures c.in-Whole.is in
+    omega (arith, found.ends, found.inside)
+
+pub slice_bounds-r-end : goal.slice_bounds-r-end
+slice_bounds-r-end c =
+    let bundle-of : List ℕ = c.args.bundle.now in
+    let found : Stands (bundle-of) c.records.at c.records.i c.in-Whole.table c.in-Whole.start c.in-Whole.next = stands _ _ _ c.records.invariant.0 c.step_at-here.ensures c.in-Whole.is in
+    found.inside
+
+-- a record that is kept clashes with none; else the search begins at the first record
+pub loop-j-init : goal.loop-j-init
+loop-j-init c =
+    let bundle-of : List ℕ = c.args.bundle.now in
+    let lent : Rec = rec c.in-Whole.table (between c.in-Whole.start c.in-Whole.next (bundle-of)) in
+    let found : Stands (bundle-of) c.records.at c.records.i c.in-Whole.table c.in-Whole.start c.in-Whole.next = stands _ _ _ c.records.invariant.0 c.step_at-here.ensures c.in-Whole.is in
+    let told : c.if-is_kept.is_kept ≡ true → (least (λ j. clash (lent) (get_or (records_of (bundle-of)) j no_rec)) c.records.i ≡ c.records.i) × Kept (bundle-of) c.if-is_kept.heads c.if-is_kept.lows (c.records.i + 1) = ⊎_elim
+    (λ w. rw (w.8, w.9)
+    (λ t. w.3.ensures (sym w.10 ∙ t) c.records.i found.below found.at found.place (c.records.invariant.2 w.0.true)))
+    (λ w t. never (sym w.3 ∙ t) w.0.left) c.if-is_kept.branch in
+    ⊎_elim (λ w. rw (w.1, w.2) (c.records.invariant.0, omega arith, (told w.0.true).0))
+    (λ w. rw (w.1, w.2) (here_start _, omega arith, none_yet _)) c.if-is_kept-2.branch
+
+pub slice_bounds-clashes-count : goal.slice_bounds-clashes-count
+slice_bounds-clashes-count c =
+    let bundle-of : List ℕ = c.args.bundle.now in
+    let found-2 : Stands (bundle-of) c.loop-j.p c.loop-j.j c.in-Whole-there.t c.in-Whole-there.s c.in-Whole-there.e = stands _ _ _ c.loop-j.invariant.0 c.step_at-there.ensures c.in-Whole-there.is in
+    found-2.ends
+
+pub slice_bounds-clashes-start : goal.slice_bounds-clashes-start
+slice_bounds-clashes-start c =
+    let bundle-of : List ℕ = c.args.bundle.now in
+    let found-2 : Stands (bundle-of) c.loop-j.p c.loop-j.j c.in-Whole-there.t c.in-Whole-there.s c.in-Whole-there.e = stands _ _ _ c.loop-j.invariant.0 c.step_at-there.ensures c.in-Whole-there.is in
+    omega (arith, found-2.ends, found-2.inside)
+
+pub slice_bounds-clashes-end : goal.slice_bounds-clashes-end
+slice_bounds-clashes-end c =
+    let bundle-of : List ℕ = c.args.bundle.now in
+    let found-2 : Stands (bundle-of) c.loop-j.p c.loop-j.j c.in-Whole-there.t c.in-Whole-there.s c.in-Whole-there.e = stands _ _ _ c.loop-j.invariant.0 c.step_at-there.ensures c.in-Whole-there.is in
+    found-2.inside
+
+pub overflow_add-j : goal.overflow_add-j
+overflow_add-j c =
+    let bundle-of : List ℕ = c.args.bundle.now in
+    let found-2 : Stands (bundle-of) c.loop-j.p c.loop-j.j c.in-Whole-there.t c.in-Whole-there.s c.in-Whole-there.e = stands _ _ _ c.loop-j.invariant.0 c.step_at-there.ensures c.in-Whole-there.is in
+    omega (arith, found-2.starts, found-2.ends, found-2.inside, c.loop-j.invariant.0.counted)
+
+pub loop-j-smaller : goal.loop-j-smaller
+loop-j-smaller c = omega arith
+
+pub loop-j-preserved : goal.loop-j-preserved
+loop-j-preserved c =
+    let bundle-of : List ℕ = c.args.bundle.now in
+    let lent : Rec = rec c.in-Whole.table (between c.in-Whole.start c.in-Whole.next (bundle-of)) in
+    let found-2 : Stands (bundle-of) c.loop-j.p c.loop-j.j c.in-Whole-there.t c.in-Whole-there.s c.in-Whole-there.e = stands _ _ _ c.loop-j.invariant.0 c.step_at-there.ensures c.in-Whole-there.is in
+    let clashing : c.clashes.result ≡ clash (lent) (get_or (records_of (bundle-of)) c.loop-j.j no_rec) = c.clashes.ensures ∙ rw found-2.at in
+    (found-2.then, omega arith, more _ c.loop-j.j c.loop-j.invariant.2 (sym (clashing) ∙ c.if-clashes.false))
+
+pub missing_link-k-requires : goal.missing_link-k-requires
+missing_link-k-requires c = c.records.invariant.3
+
+pub overflow_add-i : goal.overflow_add-i
+overflow_add-i c =
+    let bundle-of : List ℕ = c.args.bundle.now in
+    let found : Stands (bundle-of) c.records.at c.records.i c.in-Whole.table c.in-Whole.start c.in-Whole.next = stands _ _ _ c.records.invariant.0 c.step_at-here.ensures c.in-Whole.is in
+    omega (arith, found.starts, found.ends, found.inside, c.records.invariant.0.counted)
+
+pub records-smaller : goal.records-smaller
+records-smaller c =
+    let bundle-of : List ℕ = c.args.bundle.now in
+    let found : Stands (bundle-of) c.records.at c.records.i c.in-Whole.table c.in-Whole.start c.in-Whole.next = stands _ _ _ c.records.invariant.0 c.step_at-here.ensures c.in-Whole.is in
+    let w = found in omega (arith, w.starts, w.ends, w.inside)
+
+pub records-preserved : goal.records-preserved
+unfolding earlier_of
+records-preserved c =
+    let bundle-of : List ℕ = c.args.bundle.now in
+    let lent : Rec = rec c.in-Whole.table (between c.in-Whole.start c.in-Whole.next (bundle-of)) in
+    let found : Stands (bundle-of) c.records.at c.records.i c.in-Whole.table c.in-Whole.start c.in-Whole.next = stands _ _ _ c.records.invariant.0 c.step_at-here.ensures c.in-Whole.is in
+    let transferor : other_transferor (records_of (bundle-of)) (lent) ≡ not c.same_bytes.result = compared (records_of (bundle-of)) (lent) c.same_bytes.ensures c.transferor.ensures c.first_transferor-transferor.ensures in
+    let apart : earlier_of (records_of (bundle-of)) c.records.i (lent) ≡ c.records.i = let e : c.loop-j.j ≡ c.records.i = omega arith in
+    rw e at c.loop-j.invariant.2 in
+    let same_transferor : other_transferor (records_of (bundle-of)) (lent) ≡ false = transferor ∙ c.if-not-same_bytes.false-raw in
+    let told : c.if-is_kept.is_kept ≡ true → (least (λ j. clash (lent) (get_or (records_of (bundle-of)) j no_rec)) c.records.i ≡ c.records.i) × Kept (bundle-of) c.if-is_kept.heads c.if-is_kept.lows (c.records.i + 1) = ⊎_elim
+    (λ w. rw (w.8, w.9)
+    (λ t. w.3.ensures (sym w.10 ∙ t) c.records.i found.below found.at found.place (c.records.invariant.2 w.0.true)))
+    (λ w t. never (sym w.3 ∙ t) w.0.left) c.if-is_kept.branch in
+    let as_many : let a = c.args in (length c.if-is_kept.heads ≡ length a.heads.now) × (length c.if-is_kept.lows ≡ length a.lows.now) = let o = c.records.invariant in
+    ⊎_elim (λ w. (ap length w.8 ∙ (w.4.given ∙ o.4), ap length w.9 ∙ (w.6.given ∙ o.5))) (λ w. (ap length w.1 ∙ o.4, ap length w.2 ∙ o.5)) c.if-is_kept.branch in
+    let q = record_passes _ c.records.i (lent) found.cons (same_transferor) (omega (arith, apart)) (rw c.missing_link-k.ensures.0 at c.if-k-lt-LINKS.false) in
+    (found.then, c.records.invariant.1 ∙ q, (λ t. (told t).1), c.missing_link-k.ensures.1, as_many.0, as_many.1, search rules)
+
+pub returns-in_default : goal.returns-in_default
+returns-in_default c =
+    let o = over_there _ _ c.step_at-here.result c.in_default.not-Whole c.step_at-here.ensures in
+    let h = c.records.invariant.0 in
+    sym (rw (c.records.invariant.1 ∙ second_end _ c.records.i (over_nil _ _ _ h o), over_count _ _ _ h o))
+
+pub returns-then-not-same_bytes : goal.returns-then-not-same_bytes
+returns-then-not-same_bytes c =
+    let bundle-of : List ℕ = c.args.bundle.now in
+    let lent : Rec = rec c.in-Whole.table (between c.in-Whole.start c.in-Whole.next (bundle-of)) in
+    let found : Stands (bundle-of) c.records.at c.records.i c.in-Whole.table c.in-Whole.start c.in-Whole.next = stands _ _ _ c.records.invariant.0 c.step_at-here.ensures c.in-Whole.is in
+    let transferor : other_transferor (records_of (bundle-of)) (lent) ≡ not c.same_bytes.result = compared (records_of (bundle-of)) (lent) c.same_bytes.ensures c.transferor.ensures c.first_transferor-transferor.ensures in
+    as_found Refused _ (c.records.invariant.1 ∙ other_fault _ c.records.i (lent) found.cons (transferor ∙ c.if-not-same_bytes.true-raw)) c.refuse.ensures
+
+pub shape_of-heads-in_default-there : goal.shape_of-heads-in_default-there
+shape_of-heads-in_default-there c =
+    let as_many : let a = c.args in (length c.if-is_kept.heads ≡ length a.heads.now) × (length c.if-is_kept.lows ≡ length a.lows.now) = let o = c.records.invariant in
+    ⊎_elim (λ w. (ap length w.8 ∙ (w.4.given ∙ o.4), ap length w.9 ∙ (w.6.given ∙ o.5))) (λ w. (ap length w.1 ∙ o.4, ap length w.2 ∙ o.5)) c.if-is_kept.branch in
+    as_many.0
+
+pub shape_of-lows-in_default-there : goal.shape_of-lows-in_default-there
+shape_of-lows-in_default-there c =
+    let as_many : let a = c.args in (length c.if-is_kept.heads ≡ length a.heads.now) × (length c.if-is_kept.lows ≡ length a.lows.now) = let o = c.records.invariant in
+    ⊎_elim (λ w. (ap length w.8 ∙ (w.4.given ∙ o.4), ap length w.9 ∙ (w.6.given ∙ o.5))) (λ w. (ap length w.1 ∙ o.4, ap length w.2 ∙ o.5)) c.if-is_kept.branch in
+    as_many.1
+
+-- fewer than i records cannot be all
+pub returns-in_default-there : goal.returns-in_default-there
+returns-in_default-there c =
+    let bundle-of : List ℕ = c.args.bundle.now in
+    let found : Stands (bundle-of) c.records.at c.records.i c.in-Whole.table c.in-Whole.start c.in-Whole.next = stands _ _ _ c.records.invariant.0 c.step_at-here.ensures c.in-Whole.is in
+    let over = over_there _ _ c.step_at-there.result c.in_default-there.not-Whole c.step_at-there.ensures in
+    absurd (omega (arith, over_count _ _ _ c.loop-j.invariant.0 over, found.below))
+
+pub shape_of-heads-then-clashes : goal.shape_of-heads-then-clashes
+shape_of-heads-then-clashes c =
+    let as_many : let a = c.args in (length c.if-is_kept.heads ≡ length a.heads.now) × (length c.if-is_kept.lows ≡ length a.lows.now) = let o = c.records.invariant in
+    ⊎_elim (λ w. (ap length w.8 ∙ (w.4.given ∙ o.4), ap length w.9 ∙ (w.6.given ∙ o.5))) (λ w. (ap length w.1 ∙ o.4, ap length w.2 ∙ o.5)) c.if-is_kept.branch in
+    as_many.0
+
+pub shape_of-lows-then-clashes : goal.shape_of-lows-then-clashes
+shape_of-lows-then-clashes c =
+    let as_many : let a = c.args in (length c.if-is_kept.heads ≡ length a.heads.now) × (length c.if-is_kept.lows ≡ length a.lows.now) = let o = c.records.invariant in
+    ⊎_elim (λ w. (ap length w.8 ∙ (w.4.given ∙ o.4), ap length w.9 ∙ (w.6.given ∙ o.5))) (λ w. (ap length w.1 ∙ o.4, ap length w.2 ∙ o.5)) c.if-is_kept.branch in
+    as_many.1
+
+pub shape_of-hints-then-clashes : goal.shape_of-hints-then-clashes
+shape_of-hints-then-clashes c =
+    let o = c.records.invariant in search rules
+
+pub returns-then-clashes : goal.returns-then-clashes
+unfolding earlier_of
+returns-then-clashes c =
+    let bundle-of : List ℕ = c.args.bundle.now in
+    let lent : Rec = rec c.in-Whole.table (between c.in-Whole.start c.in-Whole.next (bundle-of)) in
+    let found : Stands (bundle-of) c.records.at c.records.i c.in-Whole.table c.in-Whole.start c.in-Whole.next = stands _ _ _ c.records.invariant.0 c.step_at-here.ensures c.in-Whole.is in
+    let transferor : other_transferor (records_of (bundle-of)) (lent) ≡ not c.same_bytes.result = compared (records_of (bundle-of)) (lent) c.same_bytes.ensures c.transferor.ensures c.first_transferor-transferor.ensures in
+    let found-2 : Stands (bundle-of) c.loop-j.p c.loop-j.j c.in-Whole-there.t c.in-Whole-there.s c.in-Whole-there.e = stands _ _ _ c.loop-j.invariant.0 c.step_at-there.ensures c.in-Whole-there.is in
+    let clashing : c.clashes.result ≡ clash (lent) (get_or (records_of (bundle-of)) c.loop-j.j no_rec) = c.clashes.ensures ∙ rw found-2.at in
+    let same_transferor : other_transferor (records_of (bundle-of)) (lent) ≡ false = transferor ∙ c.if-not-same_bytes.false-raw in
+    let R = records_of (bundle-of) in
+    let e : earlier_of R c.records.i (lent) ≡ c.loop-j.j = hit _ c.loop-j.j c.records.i c.loop-j.invariant.2 (sym (clashing) ∙ c.if-clashes.true) c.loop-j-test.true in
+    let q = key_fault R c.records.i (lent) found.cons (same_transferor) (rw e c.loop-j-test.true) in
+    as_found Refused _ (c.records.invariant.1 ∙ q) (c.refuse-then-clashes.ensures ∙ rw e)
+
+pub shape_of-heads-then-k-lt-LINKS : goal.shape_of-heads-then-k-lt-LINKS
+shape_of-heads-then-k-lt-LINKS c =
+    let as_many : let a = c.args in (length c.if-is_kept.heads ≡ length a.heads.now) × (length c.if-is_kept.lows ≡ length a.lows.now) = let o = c.records.invariant in
+    ⊎_elim (λ w. (ap length w.8 ∙ (w.4.given ∙ o.4), ap length w.9 ∙ (w.6.given ∙ o.5))) (λ w. (ap length w.1 ∙ o.4, ap length w.2 ∙ o.5)) c.if-is_kept.branch in
+    as_many.0
+
+pub shape_of-lows-then-k-lt-LINKS : goal.shape_of-lows-then-k-lt-LINKS
+shape_of-lows-then-k-lt-LINKS c =
+    let as_many : let a = c.args in (length c.if-is_kept.heads ≡ length a.heads.now) × (length c.if-is_kept.lows ≡ length a.lows.now) = let o = c.records.invariant in
+    ⊎_elim (λ w. (ap length w.8 ∙ (w.4.given ∙ o.4), ap length w.9 ∙ (w.6.given ∙ o.5))) (λ w. (ap length w.1 ∙ o.4, ap length w.2 ∙ o.5)) c.if-is_kept.branch in
+    as_many.1
+
+pub shape_of-hints-then-k-lt-LINKS : goal.shape_of-hints-then-k-lt-LINKS
+shape_of-hints-then-k-lt-LINKS c =
+    let m = c.missing_link-k in let g = c.hints-1 in let o = c.records.invariant in search rules
+
+pub returns-then-k-lt-LINKS : goal.returns-then-k-lt-LINKS
+unfolding earlier_of
+returns-then-k-lt-LINKS c =
+    let bundle-of : List ℕ = c.args.bundle.now in
+    let lent : Rec = rec c.in-Whole.table (between c.in-Whole.start c.in-Whole.next (bundle-of)) in
+    let found : Stands (bundle-of) c.records.at c.records.i c.in-Whole.table c.in-Whole.start c.in-Whole.next = stands _ _ _ c.records.invariant.0 c.step_at-here.ensures c.in-Whole.is in
+    let transferor : other_transferor (records_of (bundle-of)) (lent) ≡ not c.same_bytes.result = compared (records_of (bundle-of)) (lent) c.same_bytes.ensures c.transferor.ensures c.first_transferor-transferor.ensures in
+    let apart : earlier_of (records_of (bundle-of)) c.records.i (lent) ≡ c.records.i = let e : c.loop-j.j ≡ c.records.i = omega arith in
+    rw e at c.loop-j.invariant.2 in
+    let same_transferor : other_transferor (records_of (bundle-of)) (lent) ≡ false = transferor ∙ c.if-not-same_bytes.false-raw in
+    let q = link_fault _ c.records.i (lent) found.cons (same_transferor) (omega (arith, apart)) (rw c.missing_link-k.ensures.0 at c.if-k-lt-LINKS.true) in
+    as_found Refused _ (c.records.invariant.1 ∙ q) (c.refuse-then-k-lt-LINKS.ensures ∙ ap (λ (l : Link). refuse 7 c.records.i l.detail) (c.link_at-link.ensures ∙ ap (λ j. get_or link_rows j no_link) c.missing_link-k.ensures.0))
