@@ -25,6 +25,7 @@ use Rattle.bundle.specs.declared.Judgement.TheVariants.{Refused}
 use Rattle.bundle.proofs.Here.{Here, Stands, here_start, stands, over_there, over_nil, over_count}
 use Rattle.bundle.proofs.PassLaws.{second_from, second_start, second_end, other_fault, key_fault, link_fault, record_passes, compared}
 use Rattle.bundle.proofs.passes.second_pass.Goals as goal
+use Rattle.bundle.proofs.passes.second_pass.Goals.{then-is_kept, else-is_kept, then-is_kept-2, else-is_kept-2}
 
 pub records-init : goal.records-init
 records-init c = (here_start _, second_start _, (λ t j l. absurd (omega arith)), c.requires, refl, refl, refl)
@@ -53,12 +54,17 @@ loop-j-init c =
     let bundle-of : List ℕ = c.args.bundle.now in
     let lent : Rec = rec c.in-Whole.table (between c.in-Whole.start c.in-Whole.next (bundle-of)) in
     let found : Stands (bundle-of) c.records.at c.records.i c.in-Whole.table c.in-Whole.start c.in-Whole.next = stands _ _ _ c.records.invariant.0 c.step_at-here.ensures c.in-Whole.is in
-    let told : c.if-is_kept.is_kept ≡ true → (least (λ j. clash (lent) (get_or (records_of (bundle-of)) j no_rec)) c.records.i ≡ c.records.i) × Kept (bundle-of) c.if-is_kept.heads c.if-is_kept.lows (c.records.i + 1) = ⊎_elim
-    (λ w. rw (w.8, w.9)
-    (λ t. w.3.ensures (sym w.10 ∙ t) c.records.i found.below found.at found.place (c.records.invariant.2 w.0.true)))
-    (λ w t. never (sym w.3 ∙ t) w.0.left) c.if-is_kept.branch in
-    ⊎_elim (λ w. rw (w.1, w.2) (c.records.invariant.0, omega arith, (told w.0.true).0))
-    (λ w. rw (w.1, w.2) (here_start _, omega arith, none_yet _)) c.if-is_kept-2.branch
+    let told : c.if-is_kept.is_kept ≡ true → (least (λ j. clash (lent) (get_or (records_of (bundle-of)) j no_rec)) c.records.i ≡ c.records.i) × Kept (bundle-of) c.if-is_kept.heads c.if-is_kept.lows (c.records.i + 1) = 
+        elim c.if-is_kept.branch [
+          then-is_kept w ↦
+            rw (w.heads-is, w.lows-is)
+            (λ t. w.is_apart-is_kept.ensures (sym w.is_kept-is ∙ t) c.records.i found.below found.at found.place (c.records.invariant.2 w.if-is_kept.true))
+        | else-is_kept w ↦ λ t. never (sym w.is_kept-is ∙ t) w.if-is_kept.false
+        ] in
+    elim c.if-is_kept-2.branch [
+      then-is_kept-2 w ↦ rw (w.p-is, w.j-is) (c.records.invariant.0, omega arith, (told w.if-is_kept-2.true).0)
+    | else-is_kept-2 w ↦ rw (w.p-is, w.j-is) (here_start _, omega arith, none_yet _)
+    ]
 
 pub slice_bounds-clashes-count : goal.slice_bounds-clashes-count
 slice_bounds-clashes-count c =
@@ -120,14 +126,15 @@ records-preserved c =
     let apart : earlier_of (records_of (bundle-of)) c.records.i (lent) ≡ c.records.i = let e : c.loop-j.j ≡ c.records.i = omega arith in
     rw e at c.loop-j.invariant.2 in
     let same_transferor : other_transferor (records_of (bundle-of)) (lent) ≡ false = transferor ∙ c.if-not-same_bytes.false-raw in
-    let told : c.if-is_kept.is_kept ≡ true → (least (λ j. clash (lent) (get_or (records_of (bundle-of)) j no_rec)) c.records.i ≡ c.records.i) × Kept (bundle-of) c.if-is_kept.heads c.if-is_kept.lows (c.records.i + 1) = ⊎_elim
-    (λ w. rw (w.8, w.9)
-    (λ t. w.3.ensures (sym w.10 ∙ t) c.records.i found.below found.at found.place (c.records.invariant.2 w.0.true)))
-    (λ w t. never (sym w.3 ∙ t) w.0.left) c.if-is_kept.branch in
-    let as_many : let a = c.args in (length c.if-is_kept.heads ≡ length a.heads.now) × (length c.if-is_kept.lows ≡ length a.lows.now) = let o = c.records.invariant in
-    ⊎_elim (λ w. (ap length w.8 ∙ (w.4.given ∙ o.4), ap length w.9 ∙ (w.6.given ∙ o.5))) (λ w. (ap length w.1 ∙ o.4, ap length w.2 ∙ o.5)) c.if-is_kept.branch in
+    let told : c.if-is_kept.is_kept ≡ true → (least (λ j. clash (lent) (get_or (records_of (bundle-of)) j no_rec)) c.records.i ≡ c.records.i) × Kept (bundle-of) c.if-is_kept.heads c.if-is_kept.lows (c.records.i + 1) = 
+        elim c.if-is_kept.branch [
+          then-is_kept w ↦
+            rw (w.heads-is, w.lows-is)
+            (λ t. w.is_apart-is_kept.ensures (sym w.is_kept-is ∙ t) c.records.i found.below found.at found.place (c.records.invariant.2 w.if-is_kept.true))
+        | else-is_kept w ↦ λ t. never (sym w.is_kept-is ∙ t) w.if-is_kept.false
+        ] in
     let q = record_passes _ c.records.i (lent) found.cons (same_transferor) (omega (arith, apart)) (rw c.missing_link-k.ensures.0 at c.if-k-lt-LINKS.false) in
-    (found.then, c.records.invariant.1 ∙ q, (λ t. (told t).1), c.missing_link-k.ensures.1, as_many.0, as_many.1, search rules)
+    (found.then, c.records.invariant.1 ∙ q, (λ t. (told t).1), c.missing_link-k.ensures.1, search rules, search rules, search rules)
 
 pub returns-in_default : goal.returns-in_default
 returns-in_default c =
@@ -143,18 +150,6 @@ returns-then-not-same_bytes c =
     let transferor : other_transferor (records_of (bundle-of)) (lent) ≡ not c.same_bytes.result = compared (records_of (bundle-of)) (lent) c.same_bytes.ensures c.transferor.ensures c.first_transferor-transferor.ensures in
     as_found Refused _ (c.records.invariant.1 ∙ other_fault _ c.records.i (lent) found.cons (transferor ∙ c.if-not-same_bytes.true-raw)) c.refuse.ensures
 
-pub shape_of-heads-in_default-there : goal.shape_of-heads-in_default-there
-shape_of-heads-in_default-there c =
-    let as_many : let a = c.args in (length c.if-is_kept.heads ≡ length a.heads.now) × (length c.if-is_kept.lows ≡ length a.lows.now) = let o = c.records.invariant in
-    ⊎_elim (λ w. (ap length w.8 ∙ (w.4.given ∙ o.4), ap length w.9 ∙ (w.6.given ∙ o.5))) (λ w. (ap length w.1 ∙ o.4, ap length w.2 ∙ o.5)) c.if-is_kept.branch in
-    as_many.0
-
-pub shape_of-lows-in_default-there : goal.shape_of-lows-in_default-there
-shape_of-lows-in_default-there c =
-    let as_many : let a = c.args in (length c.if-is_kept.heads ≡ length a.heads.now) × (length c.if-is_kept.lows ≡ length a.lows.now) = let o = c.records.invariant in
-    ⊎_elim (λ w. (ap length w.8 ∙ (w.4.given ∙ o.4), ap length w.9 ∙ (w.6.given ∙ o.5))) (λ w. (ap length w.1 ∙ o.4, ap length w.2 ∙ o.5)) c.if-is_kept.branch in
-    as_many.1
-
 -- fewer than i records cannot be all
 pub returns-in_default-there : goal.returns-in_default-there
 returns-in_default-there c =
@@ -162,18 +157,6 @@ returns-in_default-there c =
     let found : Stands (bundle-of) c.records.at c.records.i c.in-Whole.table c.in-Whole.start c.in-Whole.next = stands _ _ _ c.records.invariant.0 c.step_at-here.ensures c.in-Whole.is in
     let over = over_there _ _ c.step_at-there.result c.in_default-there.not-Whole c.step_at-there.ensures in
     absurd (omega (arith, over_count _ _ _ c.loop-j.invariant.0 over, found.below))
-
-pub shape_of-heads-then-clashes : goal.shape_of-heads-then-clashes
-shape_of-heads-then-clashes c =
-    let as_many : let a = c.args in (length c.if-is_kept.heads ≡ length a.heads.now) × (length c.if-is_kept.lows ≡ length a.lows.now) = let o = c.records.invariant in
-    ⊎_elim (λ w. (ap length w.8 ∙ (w.4.given ∙ o.4), ap length w.9 ∙ (w.6.given ∙ o.5))) (λ w. (ap length w.1 ∙ o.4, ap length w.2 ∙ o.5)) c.if-is_kept.branch in
-    as_many.0
-
-pub shape_of-lows-then-clashes : goal.shape_of-lows-then-clashes
-shape_of-lows-then-clashes c =
-    let as_many : let a = c.args in (length c.if-is_kept.heads ≡ length a.heads.now) × (length c.if-is_kept.lows ≡ length a.lows.now) = let o = c.records.invariant in
-    ⊎_elim (λ w. (ap length w.8 ∙ (w.4.given ∙ o.4), ap length w.9 ∙ (w.6.given ∙ o.5))) (λ w. (ap length w.1 ∙ o.4, ap length w.2 ∙ o.5)) c.if-is_kept.branch in
-    as_many.1
 
 pub shape_of-hints-then-clashes : goal.shape_of-hints-then-clashes
 shape_of-hints-then-clashes c =
@@ -193,18 +176,6 @@ returns-then-clashes c =
     let e : earlier_of R c.records.i (lent) ≡ c.loop-j.j = hit _ c.loop-j.j c.records.i c.loop-j.invariant.2 (sym (clashing) ∙ c.if-clashes.true) c.loop-j-test.true in
     let q = key_fault R c.records.i (lent) found.cons (same_transferor) (rw e c.loop-j-test.true) in
     as_found Refused _ (c.records.invariant.1 ∙ q) (c.refuse-then-clashes.ensures ∙ rw e)
-
-pub shape_of-heads-then-k-lt-LINKS : goal.shape_of-heads-then-k-lt-LINKS
-shape_of-heads-then-k-lt-LINKS c =
-    let as_many : let a = c.args in (length c.if-is_kept.heads ≡ length a.heads.now) × (length c.if-is_kept.lows ≡ length a.lows.now) = let o = c.records.invariant in
-    ⊎_elim (λ w. (ap length w.8 ∙ (w.4.given ∙ o.4), ap length w.9 ∙ (w.6.given ∙ o.5))) (λ w. (ap length w.1 ∙ o.4, ap length w.2 ∙ o.5)) c.if-is_kept.branch in
-    as_many.0
-
-pub shape_of-lows-then-k-lt-LINKS : goal.shape_of-lows-then-k-lt-LINKS
-shape_of-lows-then-k-lt-LINKS c =
-    let as_many : let a = c.args in (length c.if-is_kept.heads ≡ length a.heads.now) × (length c.if-is_kept.lows ≡ length a.lows.now) = let o = c.records.invariant in
-    ⊎_elim (λ w. (ap length w.8 ∙ (w.4.given ∙ o.4), ap length w.9 ∙ (w.6.given ∙ o.5))) (λ w. (ap length w.1 ∙ o.4, ap length w.2 ∙ o.5)) c.if-is_kept.branch in
-    as_many.1
 
 pub shape_of-hints-then-k-lt-LINKS : goal.shape_of-hints-then-k-lt-LINKS
 shape_of-hints-then-k-lt-LINKS c =
