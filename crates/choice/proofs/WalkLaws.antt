@@ -130,15 +130,15 @@ module _ (v : Choice) (f place : ℕ) where
   still_at n p e = rw (ne_eqb f 0 n, e)
 
   -- and else it is this one's, if it is valid
-  no_place : OneOf (1 ∷ 2 ∷ []) (tag_of the_type v) → (other : Choice) → if_at v other ≡ other
+  no_place : ((p : ℕ) → v ≡ At p → ⊥) → (other : Choice) → if_at v other ≡ other
   no_place x other = go v x
     where
-      go : (v : Choice) → OneOf (1 ∷ 2 ∷ []) (tag_of the_type v) → if_at v other ≡ other
-      go (At p) x = ⊎_elim (λ h. absurd (omega arith)) (λ h. absurd (omega arith)) x
+      go : (v : Choice) → ((p : ℕ) → v ≡ At p → ⊥) → if_at v other ≡ other
+      go (At p) x = absurd (x p refl)
       go NotThatDay x = refl
       go Nothing x = refl
 
-  module _ (n : f ≡ 0 → ⊥) (x : OneOf (1 ∷ 2 ∷ []) (tag_of the_type v)) where
+  module _ (n : f ≡ 0 → ⊥) (x : (p : ℕ) → v ≡ At p → ⊥) where
     pub now_at : f ≡ 1 → At place ≡ noted_at v f place
     unfolding noted_at
     now_at e = rw (ne_eqb f 0 n, no_place x _, eq-eqb f 1 e)
@@ -258,7 +258,7 @@ chosen_at s w p e =
     (a.0, a.1, sym (ap (body_at s) a.2) ∙ (at_place_lem s a.0 l).0)
 
 -- an answer that is no place
-pub not_at : (s : List ℕ) (v : Choice) {c : Choice} → OneOf (1 ∷ 2 ∷ []) (tag_of the_type v) → v ≡ at_place s c → (c ≡ NotThatDay) ⊎ (c ≡ Nothing)
-not_at s (At p) x e = ⊎_elim (λ h. absurd (omega arith)) (λ h. absurd (omega arith)) x
+pub not_at : (s : List ℕ) (v : Choice) {c : Choice} → ((p : ℕ) → v ≡ At p → ⊥) → v ≡ at_place s c → (c ≡ NotThatDay) ⊎ (c ≡ Nothing)
+not_at s (At p) x e = absurd (x p refl)
 not_at s NotThatDay {c} x e = inl (is_off_day_lem s c (sym e))
 not_at s Nothing {c} x e = inr (is_nothing_lem s c (sym e))

@@ -1,0 +1,69 @@
+-- `choice::choose` meets its contract. The loop's invariant: the loop stands at record j, none before it is the railway's own and valid, and `chosen` is
+-- what those before it come to.
+-- Assumes nothing.
+use Prim.Native.Nat.{ℕ, ◌+◌, ◌-◌}
+use mathlib.Core.Path.{◌≡◌, ◌∙◌, ap}
+use mathlib.Core.List.{List}
+use native.Mathlib.Omega.{arith}
+use lib.ListN.{length}
+use borrow.Author.Rules.{rules}
+use Rattle.common.specs.Least.{least}
+use Rattle.common.proofs.Least.{start as none_yet, more}
+use Rattle.bundle.proofs.Here.{Here, Stands, here_start, stands, over_there, over_count}
+use Rattle.choice.specs.Helpers.{noted_at}
+use Rattle.choice.proofs.WalkLaws.{own, fits_own, fits_not, fits_other, standing, standing_start, remembers, own_met, none_met}
+use Rattle.choice.proofs.choose.Goals as goal
+
+pub loop-table-init : goal.loop-table-init
+loop-table-init c = (0, here_start _, none_yet _, standing_start _ _)
+
+pub returns-in_default : goal.returns-in_default
+returns-in_default c =
+    let i = c.loop-table.invariant in
+    let o = over_there _ _ c.step_at-here.result c.in_default.not-Whole c.step_at-here.ensures in
+    i.3 ∙ none_met _ _ i.0 (over_count _ _ _ i.1 o) i.2
+
+pub slice_bounds-fit-count : goal.slice_bounds-fit-count
+slice_bounds-fit-count c =
+    let bundle-of : List ℕ = c.args.bundle.now in
+    let found : Stands (bundle-of) c.loop-table.at c.loop-table.invariant.0 c.in-Whole.table c.in-Whole.start c.in-Whole.next = stands _ _ _ c.loop-table.invariant.1 c.step_at-here.ensures c.in-Whole.is in
+    found.ends
+
+pub slice_bounds-fit-start : goal.slice_bounds-fit-start
+slice_bounds-fit-start c =
+    let bundle-of : List ℕ = c.args.bundle.now in
+    let found : Stands (bundle-of) c.loop-table.at c.loop-table.invariant.0 c.in-Whole.table c.in-Whole.start c.in-Whole.next = stands _ _ _ c.loop-table.invariant.1 c.step_at-here.ensures c.in-Whole.is in
+    omega (arith, found.ends, found.inside)
+
+pub slice_bounds-fit-end : goal.slice_bounds-fit-end
+slice_bounds-fit-end c =
+    let bundle-of : List ℕ = c.args.bundle.now in
+    let found : Stands (bundle-of) c.loop-table.at c.loop-table.invariant.0 c.in-Whole.table c.in-Whole.start c.in-Whole.next = stands _ _ _ c.loop-table.invariant.1 c.step_at-here.ensures c.in-Whole.is in
+    found.inside
+
+pub returns-then-f-eq-OWN : goal.returns-then-f-eq-OWN
+returns-then-f-eq-OWN c =
+    let bundle-of : List ℕ = c.args.bundle.now in
+    let found : Stands (bundle-of) c.loop-table.at c.loop-table.invariant.0 c.in-Whole.table c.in-Whole.start c.in-Whole.next = stands _ _ _ c.loop-table.invariant.1 c.step_at-here.ensures c.in-Whole.is in
+    let i = c.loop-table.invariant in
+    own_met _ _ _ i.0 (found) i.2 (rw found.at (fits_own _ _ c.fit-f.ensures c.if-f-eq-OWN.true))
+
+pub loop-table-smaller : goal.loop-table-smaller
+loop-table-smaller c =
+    let bundle-of : List ℕ = c.args.bundle.now in
+    let found : Stands (bundle-of) c.loop-table.at c.loop-table.invariant.0 c.in-Whole.table c.in-Whole.start c.in-Whole.next = stands _ _ _ c.loop-table.invariant.1 c.step_at-here.ensures c.in-Whole.is in
+    let w = found in omega (arith, w.starts, w.ends, w.inside)
+
+pub loop-table-preserved : goal.loop-table-preserved
+loop-table-preserved c =
+    let bundle-of : List ℕ = c.args.bundle.now in
+    let found : Stands (bundle-of) c.loop-table.at c.loop-table.invariant.0 c.in-Whole.table c.in-Whole.start c.in-Whole.next = stands _ _ _ c.loop-table.invariant.1 c.step_at-here.ensures c.in-Whole.is in
+    let i = c.loop-table.invariant in
+    let n = c.if-f-eq-OWN.false in (
+      i.0 + 1,
+      found.then,
+      more _ i.0 i.2 (rw found.at (fits_not _ _ c.fit-f.ensures n)),
+      c.noted-chosen.ensures
+          ∙ (ap (λ x. noted_at x c.fit-f.result c.loop-table.at) i.3
+          ∙ remembers _ _ _ i.0 (found) (rw found.at (fits_other _ _ c.fit-f.ensures n))),
+    )
