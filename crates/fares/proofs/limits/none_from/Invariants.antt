@@ -1,0 +1,18 @@
+-- `fares::limits::none_from` meets its contract. The loop's invariant: the slots that are left decide.
+-- Assumes nothing.
+use Prim.Native.Nat.{◌≤◌, ◌-◌, ◌+◌}
+use mathlib.Core.Path.{◌≡◌, refl, sym, ◌∙◌}
+use mathlib.Core.Bool.{◌&&◌}
+use native.Mathlib.Omega.{arith}
+use lib.Dec.{eqb}
+use lib.ListN.{drop, get_or}
+use borrow.Author.Tests.{eq-eqb, ne_eqb}
+use Rattle.common.specs.Lists.{every, first_of}
+use Rattle.common.proofs.Lists.{every_step, every_end, first_length, first_at}
+use Rattle.fares.proofs.limits.none_from.Given as goal
+
+abbrev pub invariant-loop-k : goal.invariant-loop-k
+invariant-loop-k l = (l.k ≤ 4) × (every (eqb 0) (drop l.first (first_of 0 4 l.cards)) ≡ every (eqb 0) (drop l.k (first_of 0 4 l.cards)))
+
+abbrev pub decreases-loop-k : goal.decreases-loop-k
+decreases-loop-k l = 4 - l.k

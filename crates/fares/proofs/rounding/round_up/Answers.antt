@@ -1,0 +1,21 @@
+-- `fares::rounding::round_up` meets its contract.
+-- Assumes nothing.
+use mathlib.Core.Path.{sym, refl}
+use native.Mathlib.Nat.{mul-zero}
+use native.Mathlib.Omega.{arith}
+use Rattle.fares.specs.Rounding.{upwards}
+use Rattle.fares.proofs.Fit.{quotient_fits}
+use borrow.Author.Rules.{rules}
+use Rattle.fares.proofs.rounding.round_up.Goals as goal
+
+pub returns-then-factor-eq0 : goal.returns-then-factor-eq0
+unfolding upwards
+returns-then-factor-eq0 c = rw c.if-factor-eq0.true (sym (mul-zero _))
+
+pub overflow_mul-result : goal.overflow_mul-result
+unfolding upwards
+overflow_mul-result c = record { fits = quotient_fits _ _ _ (omega arith) (omega arith) }
+
+pub returns : goal.returns
+unfolding upwards
+returns c = refl
