@@ -1,0 +1,92 @@
+-- `book::words::legs_zero` meets its contract. The loop's invariant: the sum, and that of the legs that are left, are that of all.
+-- Assumes nothing.
+use Prim.Native.Nat.{ℕ, ◌+◌, ◌-◌, ◌*◌, ◌≤◌, ◌<◌}
+use mathlib.Core.Path.{◌≡◌, ◌∙◌, ap}
+use mathlib.Core.List.{List}
+use native.Mathlib.Numerals.{add-one}
+use native.Mathlib.Omega.{arith}
+use lib.Dec.{eqb}
+use lib.ListN.{length, get_or, drop, drop_of_length-le}
+use lib.Seq.{drop-cons}
+use borrow.Author.Rules.{rules}
+use Rattle.common.specs.Lists.{sum}
+use Rattle.common.proofs.Sums.{zero_sum}
+use Rattle.book.specs.Words.{railway_at, fare_at, third_at, fourth_at, question_width}
+use Rattle.book.proofs.SoundBook.{most}
+use Rattle.book.proofs.words.legs_zero.Goals as goal
+
+-- a word and those behind it, and the four of a leg
+behind : (ws : List ℕ) (p r : ℕ) → p < length ws → r ≡ p + 1 → sum (drop p ws) ≡ get_or ws p 0 + sum (drop r ws)
+unfolding sum
+behind ws p r l e = rw (e, add-one, drop-cons ws p 0 l)
+
+leg-behind : (ws : List ℕ) (j : ℕ) → length ws ≡ question_width → j < 8
+    → sum (drop (railway_at j) ws)
+    ≡ get_or ws (railway_at j) 0 + get_or ws (fare_at j) 0 + get_or ws (third_at j) 0 + get_or ws (fourth_at j) 0 + sum (drop (railway_at (j + 1)) ws)
+leg-behind ws j long l =
+    omega (
+      arith,
+      behind ws (railway_at j) (fare_at j) (omega arith) (omega arith),
+      behind ws (fare_at j) (third_at j) (omega arith) (omega arith),
+      behind ws (third_at j) (fourth_at j) (omega arith) (omega arith),
+      behind ws (fourth_at j) (railway_at (j + 1)) (omega arith) (omega arith),
+    )
+
+pub loop-j-init : goal.loop-j-init
+loop-j-init c = (omega arith, omega arith, omega arith)
+
+pub overflow_mul-at : goal.overflow_mul-at
+overflow_mul-at c = omega arith
+
+pub overflow_add-at : goal.overflow_add-at
+overflow_add-at c = omega arith
+
+pub offset_bounds-words-at : goal.offset_bounds-words-at
+offset_bounds-words-at c = omega arith
+
+pub overflow_add-at-in-loop-j : goal.overflow_add-at-in-loop-j
+overflow_add-at-in-loop-j c = omega arith
+
+pub offset_bounds-words-at-in-loop-j : goal.offset_bounds-words-at-in-loop-j
+offset_bounds-words-at-in-loop-j c = omega arith
+
+pub overflow_add-at-in-loop-j-2 : goal.overflow_add-at-in-loop-j-2
+overflow_add-at-in-loop-j-2 c = omega arith
+
+pub offset_bounds-words-at-in-loop-j-2 : goal.offset_bounds-words-at-in-loop-j-2
+offset_bounds-words-at-in-loop-j-2 c = omega arith
+
+pub overflow_add-at-in-loop-j-3 : goal.overflow_add-at-in-loop-j-3
+overflow_add-at-in-loop-j-3 c = omega arith
+
+pub offset_bounds-words-at-in-loop-j-3 : goal.offset_bounds-words-at-in-loop-j-3
+offset_bounds-words-at-in-loop-j-3 c = omega arith
+
+pub overflow_add-sum : goal.overflow_add-sum
+overflow_add-sum c =
+    let small : c.sum_of_four-sum.result ≤ 4 * most = let k = c.shared_slice_known-in-loop-j-4-1 in
+    let j = c.loop-j.j in
+    omega (arith, c.sum_of_four-sum.ensures, k.given (railway_at j), k.given (fare_at j), k.given (third_at j), k.given (fourth_at j)) in
+    omega (arith, small)
+
+pub overflow_add-j : goal.overflow_add-j
+overflow_add-j c = omega arith
+
+pub loop-j-smaller : goal.loop-j-smaller
+loop-j-smaller c = omega arith
+
+pub loop-j-preserved : goal.loop-j-preserved
+loop-j-preserved c =
+    let small : c.sum_of_four-sum.result ≤ 4 * most = let k = c.shared_slice_known-in-loop-j-4-1 in
+    let j = c.loop-j.j in
+    omega (arith, c.sum_of_four-sum.ensures, k.given (railway_at j), k.given (fare_at j), k.given (third_at j), k.given (fourth_at j)) in
+    let e = leg-behind c.args.words.now c.loop-j.j c.requires.0 c.loop-j-test.true in
+    (omega arith, omega (arith, small), omega (arith, e, c.sum_of_four-sum.ensures, c.loop-j.invariant.2))
+
+pub returns : goal.returns
+unfolding sum
+returns c =
+    let w = c.args.words.now in
+    let z : sum (drop (railway_at c.loop-j.j) w) ≡ 0 = rw (drop_of_length-le w {i = railway_at c.loop-j.j} (omega (arith, c.requires.0))) in
+    let e : c.loop-j.sum ≡ sum (drop (railway_at c.args.first) w) = omega (arith, z, c.loop-j.invariant.2) in
+    ap (λ n. eqb n 0) e ∙ zero_sum (drop (railway_at c.args.first) w)

@@ -1,0 +1,48 @@
+-- `book::words::parts_in` meets its contract. The loop's invariant: the parts passed are the words from the place on.
+-- Assumes nothing.
+use Prim.Native.Nat.{ℕ, ◌+◌, ◌≤◌, ◌<◌, ◌-◌}
+use mathlib.Core.Path.{◌≡◌, sym, ◌∙◌}
+use native.Mathlib.Omega.{arith}
+use lib.ListN.{length, get_or, take, drop, length-set, length-drop}
+use lib.Seq.{ext_get_or, get_or-take, get_or-drop, get_or-set_same, length-take-le}
+use borrow.Author.Count.{below_none, below_more}
+use borrow.Author.Rules.{rules, read_below}
+use Rattle.book.proofs.words.parts_in.Goals as goal
+
+pub loop-j-init : goal.loop-j-init
+loop-j-init c = (omega arith, search rules, below_none _)
+
+pub overflow_add-parts : goal.overflow_add-parts
+overflow_add-parts c = omega arith
+
+pub offset_bounds-book-at : goal.offset_bounds-book-at
+offset_bounds-book-at c = omega arith
+
+pub bounds-book-at : goal.bounds-book-at
+bounds-book-at c = omega arith
+
+pub offset_bounds-parts-j : goal.offset_bounds-parts-j
+offset_bounds-parts-j c = omega arith
+
+pub bounds-parts-j : goal.bounds-parts-j
+bounds-parts-j c = omega arith
+
+pub overflow_add-j : goal.overflow_add-j
+overflow_add-j c = omega arith
+
+pub loop-j-smaller : goal.loop-j-smaller
+loop-j-smaller c = omega arith
+
+pub loop-j-preserved : goal.loop-j-preserved
+loop-j-preserved c =
+    let a = c.args in
+    let j = c.loop-j.j in
+    let v = get_or a.book.now (a.at + j) 0 in
+    (omega arith, length-set c.loop-j.parts j v ∙ c.loop-j.invariant.1, below_more _ _ (λ k h. read_below _ c.loop-j.parts j k v 0 _ h (c.loop-j.invariant.2 k h)) (get_or-set_same c.loop-j.parts j v 0 (omega arith)))
+
+pub returns : goal.returns
+returns c =
+    let a = c.args in
+    let w = a.book.now in
+    let n : length (take 8 (drop a.at w)) ≡ 8 = length-take-le 8 (drop a.at w) (rw length-drop (omega arith)) in
+    ext_get_or 0 _ _ (omega arith) (λ k h. c.loop-j.invariant.2 k (omega arith) ∙ sym (get_or-take 8 (drop a.at w) k 0 (omega arith) ∙ get_or-drop a.at w k 0))

@@ -1,0 +1,16 @@
+-- `book::words::parts_in` meets its contract. The loop's invariant: the parts passed are the words from the place on.
+-- Assumes nothing.
+use Prim.Native.Nat.{ℕ, ◌+◌, ◌≤◌, ◌<◌, ◌-◌}
+use mathlib.Core.Path.{◌≡◌, sym, ◌∙◌}
+use native.Mathlib.Omega.{arith}
+use lib.ListN.{length, get_or, take, drop, length-set, length-drop}
+use lib.Seq.{ext_get_or, get_or-take, get_or-drop, get_or-set_same, length-take-le}
+use borrow.Author.Count.{below_none, below_more}
+use borrow.Author.Rules.{rules, read_below}
+use Rattle.book.proofs.words.parts_in.Given as goal
+
+abbrev pub invariant-loop-j : goal.invariant-loop-j
+invariant-loop-j l = (l.j ≤ 8) × (length l.parts ≡ 8) × ((k : ℕ) → k < l.j → get_or l.parts k 0 ≡ get_or l.book (l.at + k) 0)
+
+abbrev pub decreases-loop-j : goal.decreases-loop-j
+decreases-loop-j l = 8 - l.j
