@@ -262,14 +262,3 @@ module _ (w : List ℕ) (t s : ℕ) where
     pub cancelled_writes : cancel_words w t s ≡ cancelled_at w (place w t s)
     unfolding cancel_words is_cancelled
     cancelled_writes = rw (told_cancel.0, told_cancel.1)
-
--- an outcome that is none of these
-pub other_than_booked : (o : Outcome) → OneOf (1 ∷ 2 ∷ 3 ∷ 4 ∷ []) (tag_of the_type o) → o ≡ Booked → ⊥
-other_than_booked o x e =
-    let y : OneOf (1 ∷ 2 ∷ 3 ∷ 4 ∷ []) 0 = subst (λ (p : Outcome). OneOf (1 ∷ 2 ∷ 3 ∷ 4 ∷ []) (tag_of the_type p)) e x in
-    ⊎_elim (λ h. omega arith) (⊎_elim (λ h. omega arith) (⊎_elim (λ h. omega arith) (λ h. omega arith))) y
-
-pub other_than_cancelled : (o : Outcome) → OneOf (0 ∷ 1 ∷ 3 ∷ 4 ∷ []) (tag_of the_type o) → o ≡ Cancelled → ⊥
-other_than_cancelled o x e =
-    let y : OneOf (0 ∷ 1 ∷ 3 ∷ 4 ∷ []) 2 = subst (λ (p : Outcome). OneOf (0 ∷ 1 ∷ 3 ∷ 4 ∷ []) (tag_of the_type p)) e x in
-    ⊎_elim (λ h. omega arith) (⊎_elim (λ h. omega arith) (⊎_elim (λ h. omega arith) (λ h. omega arith))) y

@@ -1,0 +1,42 @@
+-- `sales::reading::entry` meets its contract.
+-- Assumes nothing.
+use Prim.Native.Nat.{◌<◌}
+use mathlib.Core.Path.{◌≡◌, sym, ◌∙◌, ap}
+use mathlib.Core.Bool.{true}
+use native.Mathlib.Omega.{arith}
+use borrow.Author.Rules.{rules}
+use borrow.Author.Tests.{lt-ltb, le-ltb}
+use Rattle.common.specs.Checks.{first_fault}
+use Rattle.common.proofs.Tests.{fails, holds}
+use Rattle.book.specs.Words.{count_of}
+use Rattle.book.specs.Sound.{sound_words}
+use Rattle.book.proofs.SoundBook.{is_sound, entry_is, entries_length}
+use Rattle.sales.specs.Reading.{booking_at, entry_answer}
+use Rattle.sales.proofs.reading.entry.Goals as goal
+
+pub returns-then-not-is_sound : goal.returns-then-not-is_sound
+unfolding entry_answer first_fault
+returns-then-not-is_sound c = c.refused.ensures ∙ sym (rw (fails c.is_sound.result c.if-not-is_sound.true-raw c.is_sound.ensures))
+
+pub returns-then-count-entry : goal.returns-then-count-entry
+unfolding entry_answer first_fault
+returns-then-count-entry c =
+    let sound : sound_words c.args.book.now ≡ true = holds c.is_sound.result c.if-not-is_sound.false-raw c.is_sound.ensures in
+    let a = c.args in
+    c.refused-then-count-entry.ensures
+    ∙ sym (rw (sound, entries_length a.book.now, le-ltb a.entry (count_of a.book.now) (omega (arith, c.if-count-entry.true, c.count.ensures))))
+
+pub booking_at-requires : goal.booking_at-requires
+booking_at-requires c =
+    let sound : sound_words c.args.book.now ≡ true = holds c.is_sound.result c.if-not-is_sound.false-raw c.is_sound.ensures in
+    let s = is_sound _ (sound) in
+    omega (arith, s.long, s.few, c.if-count-entry.false, c.count.ensures)
+
+pub returns : goal.returns
+unfolding entry_answer first_fault
+returns c =
+    let sound : sound_words c.args.book.now ≡ true = holds c.is_sound.result c.if-not-is_sound.false-raw c.is_sound.ensures in
+    let a = c.args in
+    let l : a.entry < count_of a.book.now = omega (arith, c.if-count-entry.false, c.count.ensures) in
+    c.booking_at.ensures
+    ∙ sym (rw (sound, entries_length a.book.now, lt-ltb a.entry (count_of a.book.now) l) (ap (booking_at a.entry) (entry_is a.book.now a.entry l)))
