@@ -1,0 +1,9 @@
+-- `edge::offers_find` meets its contract: the answer of the front door, flattened.
+-- Assumes nothing.
+use mathlib.Core.Path.{◌∙◌, ap}
+use borrow.Author.Rules.{rules}
+use Rattle.edge.specs.Replies.{booking_reply}
+use Rattle.edge.proofs.offers_find.Goals as goal
+
+pub returns : goal.returns
+returns c = c.flatten_booking.ensures ∙ ap booking_reply c.find.ensures
