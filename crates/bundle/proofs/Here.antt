@@ -12,9 +12,6 @@ use lib.Seq.{drop-drop, get_or-drop}
 use Rattle.common.proofs.Tests.{side}
 use Rattle.bundle.specs.Records.{rec, no_rec, step_of, if_whole, between, records_from, rest_from, records_of, rest_of}
 use Rattle.bundle.specs.Helpers.{moved, step_at, places_from, places_of, body_at}
-use types.Run.{OneOf}
-use denote.Enum.Declared.{tag_of}
-use Rattle.bundle.specs.contracts.walk.Step.{the_type}
 use Rattle.bundle.specs.declared.walk.Step.{Step}
 use Rattle.bundle.specs.declared.walk.Step.TheVariants.{Unknown, Short, Whole}
 use Rattle.bundle.proofs.Steps.{Lies, whole_lies}

@@ -4,7 +4,7 @@
 use Rattle.std.specs.Prelude.{ℕ, zero, suc, ◌+◌, Bool, List, [], ◌∷◌, length, take, drop}
 use Rattle.common.specs.Lists.{same}
 use Rattle.common.specs.Checks.{first_fault}
-use Rattle.bundle.specs.Records.{Rec, step_of, if_whole, between, records_of}
+use Rattle.bundle.specs.Records.{step_of, if_whole, between, records_of}
 use Rattle.bundle.specs.Verdict.{first_pass, second_pass, judged}
 use Rattle.bundle.specs.declared.Judgement.{Judgement}
 use Rattle.bundle.specs.declared.walk.Step.{Step}

@@ -1,13 +1,11 @@
 -- What the answers on a sale and a cancellation come to, case by case as the code finds them; and that what is written follows from the answer.
 -- Assumes nothing.
 use Prim.Native.Nat.{ℕ, ◌+◌, ◌≤◌, ◌<◌}
-use mathlib.Core.Path.{◌≡◌, refl, ◌∙◌, ap, subst}
+use mathlib.Core.Path.{◌≡◌, refl, ◌∙◌, ap}
 use mathlib.Core.Bool.{Bool, true, false, cond, not, ◌&&◌}
 use mathlib.Core.List.{List, [], ◌∷◌}
 use native.Mathlib.Omega.{arith}
 use mathlib.Core.Logic.{⊎_elim}
-use types.Run.{OneOf}
-use denote.Enum.Declared.{tag_of}
 use lib.Dec.{eqb, leb}
 use lib.ListN.{length}
 use borrow.Author.Tests.{lt-ltb, le-ltb, le-leb, lt-leb, leb-false, ltb-true, not-false}
@@ -22,13 +20,11 @@ use Rattle.fares.specs.declared.Pricing.TheVariants.{Priced, Refused as NoFare}
 use Rattle.book.specs.Words.{Entry, width, start_of, entry_at, capacity, count_of, entries, question_words, booking}
 use Rattle.book.specs.Sound.{number_in_limits, sound_words}
 use Rattle.sales.specs.Sales.{no_receipt, receipt, cancel_receipt, is_clean, place, is_present, present, sale_checks, sale_answer, is_booked, sale_words, cancel_checks, cancel_answer, is_cancelled, cancel_words}
-use Rattle.sales.specs.declared.Outcome.{Outcome}
 use Rattle.sales.specs.declared.Outcome.TheVariants.{Booked, AlreadyBooked, Cancelled, AlreadyCancelled}
 use Rattle.sales.specs.declared.Receipt.{Receipt}
 use Rattle.sales.specs.Helpers.{looked_up, again_answer, first_answer}
 use Rattle.sales.specs.Reading.{no_booking, booking_at, find_answer}
 use Rattle.sales.specs.declared.reading.Looked.TheVariants.{At, Refused as NotThere}
-use Rattle.sales.specs.contracts.Outcome.{the_type}
 use Rattle.book.proofs.SoundBook.{is_sound, entry_is, entries_length}
 use Rattle.book.specs.Changes.{added, cancelled_at}
 

@@ -1,7 +1,6 @@
 -- `bundle::verdict` meets its contract.
 -- Assumes nothing.
 use mathlib.Core.Path.{sym, ◌∙◌, ap}
-use borrow.Author.Rules.{rules}
 use Rattle.bundle.specs.declared.Judgement.TheVariants.{Refused}
 use Rattle.bundle.proofs.PassLaws.{too_long, by_first, by_second}
 use Rattle.bundle.proofs.verdict.Goals as goal

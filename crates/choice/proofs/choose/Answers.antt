@@ -1,17 +1,14 @@
 -- `choice::choose` meets its contract. The loop's invariant: the loop stands at record j, none before it is the railway's own and valid, and `chosen` is
 -- what those before it come to.
 -- Assumes nothing.
-use Prim.Native.Nat.{ℕ, ◌+◌, ◌-◌}
-use mathlib.Core.Path.{◌≡◌, ◌∙◌, ap}
+use Prim.Native.Nat.{ℕ, ◌+◌}
+use mathlib.Core.Path.{◌∙◌, ap}
 use mathlib.Core.List.{List}
 use native.Mathlib.Omega.{arith}
-use lib.ListN.{length}
-use borrow.Author.Rules.{rules}
-use Rattle.common.specs.Least.{least}
 use Rattle.common.proofs.Least.{start as none_yet, more}
-use Rattle.bundle.proofs.Here.{Here, Stands, here_start, stands, over_there, over_count}
+use Rattle.bundle.proofs.Here.{Stands, here_start, stands, over_there, over_count}
 use Rattle.choice.specs.Helpers.{noted_at}
-use Rattle.choice.proofs.WalkLaws.{own, fits_own, fits_not, fits_other, standing, standing_start, remembers, own_met, none_met}
+use Rattle.choice.proofs.WalkLaws.{fits_own, fits_not, fits_other, standing_start, remembers, own_met, none_met}
 use Rattle.choice.proofs.choose.Goals as goal
 
 pub loop-table-init : goal.loop-table-init

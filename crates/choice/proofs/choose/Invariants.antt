@@ -1,17 +1,12 @@
 -- `choice::choose` meets its contract. The loop's invariant: the loop stands at record j, none before it is the railway's own and valid, and `chosen` is
 -- what those before it come to.
 -- Assumes nothing.
-use Prim.Native.Nat.{ℕ, ◌+◌, ◌-◌}
-use mathlib.Core.Path.{◌≡◌, ◌∙◌, ap}
-use mathlib.Core.List.{List}
-use native.Mathlib.Omega.{arith}
+use Prim.Native.Nat.{ℕ, ◌-◌}
+use mathlib.Core.Path.{◌≡◌}
 use lib.ListN.{length}
-use borrow.Author.Rules.{rules}
 use Rattle.common.specs.Least.{least}
-use Rattle.common.proofs.Least.{start as none_yet, more}
-use Rattle.bundle.proofs.Here.{Here, Stands, here_start, stands, over_there, over_count}
-use Rattle.choice.specs.Helpers.{noted_at}
-use Rattle.choice.proofs.WalkLaws.{own, fits_own, fits_not, fits_other, standing, standing_start, remembers, own_met, none_met}
+use Rattle.bundle.proofs.Here.{Here}
+use Rattle.choice.proofs.WalkLaws.{own, standing}
 use Rattle.choice.proofs.choose.Given as goal
 
 abbrev pub invariant-loop-table : goal.invariant-loop-table

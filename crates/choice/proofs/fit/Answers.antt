@@ -2,7 +2,6 @@
 -- Assumes nothing.
 use mathlib.Core.Path.{sym, ◌∙◌}
 use mathlib.Core.Bool.{true, false}
-use borrow.Author.Rules.{rules}
 use Rattle.choice.proofs.WalkLaws.{by_other, by_day}
 use Rattle.choice.proofs.fit.Goals as goal
 

@@ -1,6 +1,5 @@
 -- `choice::noted` meets its contract.
 -- Assumes nothing.
-use borrow.Author.Rules.{rules}
 use Rattle.choice.proofs.WalkLaws.{still_nothing, still_at, now_at, off_its_days}
 use Rattle.choice.proofs.noted.Goals as goal
 

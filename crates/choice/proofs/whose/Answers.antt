@@ -2,7 +2,6 @@
 -- Assumes nothing.
 use mathlib.Core.Path.{sym, ◌∙◌}
 use mathlib.Core.Bool.{true, false}
-use borrow.Author.Rules.{rules}
 use borrow.Author.Tests.{not-true, not-false}
 use Rattle.choice.proofs.WalkLaws.{by_table, by_offer, by_code, by_own, by_all}
 use Rattle.choice.proofs.whose.Goals as goal

@@ -1,6 +1,6 @@
 -- `common::byte_at` meets its contract.
 -- Assumes nothing.
-use Rattle.std.proofs.Common.{sym, arith, rules}
+use Rattle.std.proofs.Common.{sym, arith}
 use lib.ListN.{get_or-eq_default}
 use Rattle.common.proofs.byte_at.Goals as goal
 

@@ -1,8 +1,8 @@
 -- `common::number` meets its contract. The loop's invariant: the digits passed say v, which has no more digits than were passed.
 -- Assumes nothing.
-use Rattle.std.proofs.Common.{◌≡◌, ◌-◌, ◌^◌, ◌<◌, ◌≤◌, length, drop, sym, ◌∙◌, arith, rules, le-ltb, lt-ltb, le-leb}
+use Rattle.std.proofs.Common.{sym, ◌∙◌, arith, le-ltb, lt-ltb, le-leb}
 use borrow.Author.Tests.{lt-leb}
-use Rattle.common.specs.Digits.{number_of, digits_after}
+use Rattle.common.specs.Digits.{number_of}
 use Rattle.common.proofs.Digits.{digits_step, digits_end, grows, small}
 use Rattle.common.proofs.number.Goals as goal
 

@@ -1,6 +1,6 @@
 -- `common::part` meets its contract: nothing, the rest, or a part of it.
 -- Assumes nothing.
-use Rattle.std.proofs.Common.{◌-◌, length, sym, ◌∙◌, arith, rules}
+use Rattle.std.proofs.Common.{◌-◌, length, sym, ◌∙◌, arith}
 use native.Mathlib.Nat.{add-sub_cancel_left}
 use Rattle.common.proofs.Parts.{rest_all, rest_taken, beyond}
 use Rattle.common.proofs.part.Goals as goal

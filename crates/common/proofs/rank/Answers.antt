@@ -1,7 +1,7 @@
 -- `common::rank` meets its contract. The loop's invariant: the bytes passed make v, which is no larger than so many bytes can make it.
 -- Assumes nothing.
-use Rattle.std.proofs.Common.{◌≡◌, ◌+◌, ◌-◌, ◌*◌, ◌^◌, ◌<◌, ◌≤◌, length, get_or, drop, sym, ◌∙◌, arith, rules, le-ltb, lt-ltb}
-use Rattle.common.specs.Ranks.{rank_after, rank_of, rank_limit}
+use Rattle.std.proofs.Common.{◌+◌, ◌*◌, ◌^◌, ◌<◌, ◌≤◌, get_or, sym, ◌∙◌, arith, rules, le-ltb, lt-ltb}
+use Rattle.common.specs.Ranks.{rank_of, rank_limit}
 use Rattle.common.proofs.Ranks.{rank_step, rank_end, rank_grows, rank_small}
 use Rattle.common.proofs.rank.Goals as goal
 

@@ -1,10 +1,9 @@
 -- `common::same_bytes` meets its contract. The invariant of both loops: the bytes passed are the same.
 -- Assumes nothing.
-use Rattle.std.proofs.Common.{◌≡◌, ℕ, ◌-◌, ◌<◌, ◌≤◌, List, length, get_or, sym, ap, ◌∙◌, arith, ext_get_or, rules, below_none, below_more}
+use Rattle.std.proofs.Common.{ℕ, ◌<◌, length, get_or, sym, ap, ◌∙◌, arith, ext_get_or, below_none, below_more}
 use Rattle.common.specs.Helpers.{four_at}
 use Rattle.common.proofs.Lists.{is_same, not_same}
 use Rattle.common.proofs.Fours.{four_more}
-use Rattle.common.proofs.same_bytes.Invariants.{SameBelow}
 use Rattle.common.proofs.same_bytes.Goals as goal
 
 pub returns-then-a-b : goal.returns-then-a-b
@@ -13,25 +12,10 @@ returns-then-a-b c = sym (not_same _ _ (λ e. c.if-a-b.true (ap length e)))
 pub loop-i-init : goal.loop-i-init
 loop-i-init c = (omega arith, c.if-a-b.false, below_none _)
 
-pub overflow_sub-n : goal.overflow_sub-n
-overflow_sub-n c = omega arith
-
-pub four_at-requires : goal.four_at-requires
-four_at-requires c = omega arith
-
-pub four_at-requires-in-loop-i : goal.four_at-requires-in-loop-i
-four_at-requires-in-loop-i c = omega arith
-
 pub returns-then-four_at : goal.returns-then-four_at
 returns-then-four_at c =
     let i = c.loop-i.i in
     sym (not_same _ _ (λ e. c.if-four_at.true (c.four_at.ensures ∙ (ap (four_at i) e ∙ sym c.four_at-in-loop-i.ensures))))
-
-pub overflow_add-i : goal.overflow_add-i
-overflow_add-i c = omega arith
-
-pub loop-i-smaller : goal.loop-i-smaller
-loop-i-smaller c = omega arith
 
 pub loop-i-preserved : goal.loop-i-preserved
 loop-i-preserved c =
@@ -43,9 +27,6 @@ loop-i-preserved c =
 
 pub loop-i-2-init : goal.loop-i-2-init
 loop-i-2-init c = c.loop-i.invariant
-
-pub bounds-b-i : goal.bounds-b-i
-bounds-b-i c = omega arith
 
 pub returns-then-a-i : goal.returns-then-a-i
 returns-then-a-i c = sym (not_same _ _ (λ e. c.if-a-i.true (rw e)))

@@ -1,9 +1,6 @@
 -- `common::same_bytes` meets its contract. The invariant of both loops: the bytes passed are the same.
 -- Assumes nothing.
-use Rattle.std.proofs.Common.{◌≡◌, ℕ, ◌-◌, ◌<◌, ◌≤◌, List, length, get_or, sym, ap, ◌∙◌, arith, ext_get_or, rules, below_none, below_more}
-use Rattle.common.specs.Helpers.{four_at}
-use Rattle.common.proofs.Lists.{is_same, not_same}
-use Rattle.common.proofs.Fours.{four_more}
+use Rattle.std.proofs.Common.{◌≡◌, ℕ, ◌-◌, ◌<◌, ◌≤◌, List, length, get_or}
 use Rattle.common.proofs.same_bytes.Given as goal
 
 abbrev pub SameBelow : List ℕ → List ℕ → ℕ → Type 0

@@ -1,6 +1,5 @@
 -- `edge::flatten_booking` meets its contract.
 -- Assumes nothing.
-use borrow.Author.Rules.{rules}
 use Rattle.edge.specs.Replies.{booking_reply}
 use Rattle.edge.proofs.flatten_booking.Goals as goal
 

@@ -1,7 +1,6 @@
 -- `edge::flatten_judgement` meets its contract, case by case.
 -- Assumes nothing.
 use mathlib.Core.Path.{refl}
-use borrow.Author.Rules.{rules}
 use Rattle.offers.specs.Answers.{verdict_tells}
 use Rattle.edge.specs.Replies.{judgement_reply}
 use Rattle.edge.proofs.flatten_judgement.Goals as goal

@@ -1,7 +1,6 @@
 -- `edge::flatten_quote` meets its contract, case by case.
 -- Assumes nothing.
 use mathlib.Core.Path.{refl}
-use borrow.Author.Rules.{rules}
 use Rattle.offers.specs.Answers.{fare_tells, pricing_tells}
 use Rattle.edge.specs.Replies.{quote_reply}
 use Rattle.edge.proofs.flatten_quote.Goals as goal

@@ -1,7 +1,6 @@
 -- `edge::flatten_receipt` meets its contract, case by case.
 -- Assumes nothing.
 use mathlib.Core.Path.{refl}
-use borrow.Author.Rules.{rules}
 use Rattle.offers.specs.Answers.{receipt_tells, outcome_tells}
 use Rattle.edge.specs.Replies.{receipt_reply}
 use Rattle.edge.proofs.flatten_receipt.Goals as goal

@@ -1,7 +1,6 @@
 -- `edge::flatten_sum` meets its contract, case by case.
 -- Assumes nothing.
 use mathlib.Core.Path.{refl}
-use borrow.Author.Rules.{rules}
 use Rattle.offers.specs.Answers.{sum_tells}
 use Rattle.edge.specs.Replies.{sum_reply}
 use Rattle.edge.proofs.flatten_sum.Goals as goal

@@ -1,7 +1,6 @@
 -- `edge::flatten_tally` meets its contract, case by case.
 -- Assumes nothing.
 use mathlib.Core.Path.{refl}
-use borrow.Author.Rules.{rules}
 use Rattle.offers.specs.Answers.{tally_tells}
 use Rattle.edge.specs.Replies.{tally_reply}
 use Rattle.edge.proofs.flatten_tally.Goals as goal

@@ -1,7 +1,6 @@
 -- `edge::offers_balance` meets its contract: the answer of the front door, flattened.
 -- Assumes nothing.
 use mathlib.Core.Path.{◌∙◌, ap}
-use borrow.Author.Rules.{rules}
 use Rattle.offers.specs.Answers.{sum_tells}
 use Rattle.edge.specs.Replies.{sum_reply}
 use Rattle.edge.proofs.offers_balance.Goals as goal

@@ -1,7 +1,6 @@
 -- `edge::offers_count` meets its contract: the answer of the front door, flattened.
 -- Assumes nothing.
 use mathlib.Core.Path.{◌∙◌, ap}
-use borrow.Author.Rules.{rules}
 use Rattle.offers.specs.Answers.{tally_tells}
 use Rattle.edge.specs.Replies.{tally_reply}
 use Rattle.edge.proofs.offers_count.Goals as goal

@@ -1,7 +1,6 @@
 -- `edge::offers_fare` meets its contract: the answer of the front door, flattened.
 -- Assumes nothing.
 use mathlib.Core.Path.{◌∙◌, ap}
-use borrow.Author.Rules.{rules}
 use Rattle.offers.specs.Answers.{fare_tells}
 use Rattle.edge.specs.Replies.{quote_reply}
 use Rattle.edge.proofs.offers_fare.Goals as goal

@@ -1,7 +1,6 @@
 -- `edge::offers_find` meets its contract: the answer of the front door, flattened.
 -- Assumes nothing.
 use mathlib.Core.Path.{◌∙◌, ap}
-use borrow.Author.Rules.{rules}
 use Rattle.edge.specs.Replies.{booking_reply}
 use Rattle.edge.proofs.offers_find.Goals as goal
 

@@ -1,7 +1,6 @@
 -- `edge::offers_verdict` meets its contract: the answer of the front door, flattened.
 -- Assumes nothing.
 use mathlib.Core.Path.{◌∙◌, ap}
-use borrow.Author.Rules.{rules}
 use Rattle.offers.specs.Answers.{verdict_tells}
 use Rattle.edge.specs.Replies.{judgement_reply}
 use Rattle.edge.proofs.offers_verdict.Goals as goal

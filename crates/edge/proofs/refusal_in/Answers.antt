@@ -1,6 +1,5 @@
 -- `edge::refusal_in` meets its contract, case by case.
 -- Assumes nothing.
-use borrow.Author.Rules.{rules}
 use Rattle.edge.proofs.refusal_in.Goals as goal
 
 pub returns-in-Found : goal.returns-in-Found

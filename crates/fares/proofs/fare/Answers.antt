@@ -2,7 +2,6 @@
 -- Assumes nothing.
 use mathlib.Core.Path.{sym, ◌∙◌}
 use Rattle.fares.proofs.FareLaws.{verdict_first, then_the_price}
-use borrow.Author.Rules.{rules}
 use Rattle.fares.proofs.fare.Goals as goal
 
 pub returns-in-Refused : goal.returns-in-Refused

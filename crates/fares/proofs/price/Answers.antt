@@ -1,11 +1,10 @@
 -- `fares::price` meets its contract. The loop's invariant: it stands before leg k.
 -- Assumes nothing.
-use Prim.Native.Nat.{◌+◌, ◌-◌, ◌≤◌}
+use Prim.Native.Nat.{◌+◌, ◌≤◌}
 use mathlib.Core.Path.{◌≡◌, sym, ◌∙◌}
 use mathlib.Core.Bool.{true}
 use native.Mathlib.Omega.{arith}
 use lib.ListN.{set}
-use borrow.Author.Rules.{rules}
 use Rattle.common.proofs.Tests.{fails, holds}
 use Rattle.bundle.specs.Records.{records_of}
 use Rattle.fares.specs.Question.{card_slots, cards_differ, in_limits}
@@ -81,12 +80,6 @@ overflow_add-fare c =
     let other : cards_differ (card_slots c.args.q) ≡ true = differ in
     let next : let a = c.args in let x = c.in-Part.part in Before (records_of a.bundle.now) a.q (c.loop-k.k + 1) (set c.loop-k.parts c.loop-k.k x) (c.loop-k.fare + x) = leg_priced _ _ (known) (other) c.loop-k.invariant c.loop-k-test.true (sym c.price_leg-answer.ensures ∙ c.in-Part.is) in
     omega (arith, (fare_small _ _ (known) (other) (next)))
-
-pub overflow_add-k : goal.overflow_add-k
-overflow_add-k c = omega arith
-
-pub loop-k-smaller : goal.loop-k-smaller
-loop-k-smaller c = omega arith
 
 -- a part was told: the loop stands before the next leg
 pub loop-k-preserved : goal.loop-k-preserved

@@ -7,7 +7,6 @@ use Rattle.common.proofs.Tests.{fails, holds}
 use Rattle.book.specs.Words.{entries}
 use Rattle.sales.specs.Balances.{balance_answer}
 use Rattle.book.proofs.BalanceSums.{counted_railway}
-use borrow.Author.Rules.{rules}
 use Rattle.sales.proofs.balance.Goals as goal
 
 pub returns-then-not-is_sound : goal.returns-then-not-is_sound

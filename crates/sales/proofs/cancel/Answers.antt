@@ -12,7 +12,6 @@ use Rattle.book.proofs.SoundBook.{IsSound, is_sound, fits_word}
 use Rattle.sales.specs.Sales.{place, cancel_answer}
 use Rattle.sales.specs.declared.Outcome.TheVariants.{Cancelled}
 use Rattle.sales.proofs.AnswersByCase.{cancelled_sound, cancelled_writes, not_cancelled_stays}
-use borrow.Author.Rules.{rules}
 use Rattle.sales.proofs.cancel.Goals as goal
 
 pub overflow_cast-sequence : goal.overflow_cast-sequence

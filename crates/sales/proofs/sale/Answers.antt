@@ -8,7 +8,6 @@ use Rattle.book.specs.Words.{booking}
 use Rattle.sales.specs.Sales.{sale_answer}
 use Rattle.sales.specs.declared.Outcome.TheVariants.{Booked}
 use Rattle.sales.proofs.AnswersByCase.{booked_sound, booked_writes, not_booked_stays}
-use borrow.Author.Rules.{rules}
 use Rattle.book.specs.Changes.{added}
 use Rattle.sales.proofs.sale.Goals as goal
 

@@ -5,7 +5,6 @@ use Rattle.sales.specs.declared.Sum.TheVariants.{Refused}
 use Rattle.common.specs.Checks.{first_fault}
 use Rattle.common.proofs.Tests.{fails, holds}
 use Rattle.sales.specs.Balances.{total_answer}
-use borrow.Author.Rules.{rules}
 use Rattle.sales.proofs.total.Goals as goal
 
 pub returns-then-not-is_sound : goal.returns-then-not-is_sound

@@ -1,6 +1,5 @@
 -- `seen::has_tag` meets its contract.
 -- Assumes nothing.
-use borrow.Author.Rules.{rules}
 use Rattle.seen.specs.Seen.{has_tag}
 use Rattle.seen.proofs.has_tag.Goals as goal
 

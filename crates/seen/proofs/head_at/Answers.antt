@@ -2,7 +2,6 @@
 -- Assumes nothing.
 use mathlib.Core.Path.{sym}
 use lib.ListN.{get_or-eq_default}
-use borrow.Author.Rules.{rules}
 use Rattle.seen.proofs.head_at.Goals as goal
 
 pub returns-then-heads-slot : goal.returns-then-heads-slot

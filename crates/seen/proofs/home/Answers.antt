@@ -4,7 +4,6 @@ use Prim.Native.Nat.{◌-◌, ◌%◌}
 use mathlib.Core.Path.{refl}
 use native.Mathlib.Omega.{arith}
 use native.Mathlib.Nat.{mul-le-mul}
-use borrow.Author.Rules.{rules}
 use Rattle.seen.specs.Seen.{range, scattered, home_of}
 use Rattle.seen.proofs.home.Goals as goal
 

@@ -1,6 +1,5 @@
 -- `seen::put` meets its contract.
 -- Assumes nothing.
-use borrow.Author.Rules.{rules}
 use Rattle.seen.proofs.Laws.{no_head, no_low, too_great, is_room_lem}
 use Rattle.seen.proofs.put.Goals as goal
 

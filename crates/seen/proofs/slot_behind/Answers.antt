@@ -1,6 +1,5 @@
 -- `seen::slot_behind` meets its contract.
 -- Assumes nothing.
-use borrow.Author.Rules.{rules}
 use borrow.Author.Tests.{lt-ltb, le-ltb}
 use Rattle.seen.specs.Seen.{slot_behind}
 use Rattle.seen.proofs.slot_behind.Goals as goal

@@ -1,13 +1,12 @@
 -- `book::changes::put` meets its contract. The loop's invariant: the first k words stand in their places, and the rest of the book is as it was.
 -- Assumes nothing.
-use Prim.Native.Nat.{ℕ, ◌+◌, ◌-◌, ◌≤◌, ◌<◌}
+use Prim.Native.Nat.{ℕ, ◌+◌, ◌≤◌, ◌<◌}
 use mathlib.Core.Path.{◌≡◌, refl, ◌∙◌, ap}
 use mathlib.Core.List.{List}
 use native.Mathlib.Numerals.{add-one}
 use native.Mathlib.Omega.{arith}
 use lib.ListN.{length, get_or, set, length-set}
 use lib.Seq.{paste, paste-zero, paste-suc}
-use borrow.Author.Rules.{rules}
 use Rattle.book.proofs.changes.put.Goals as goal
 
 copied : (w b ws : List ℕ) (at k : ℕ) → at + length ws ≤ length w → k < length ws → b ≡ paste w at ws k → set b (at + k) (get_or ws k 0) ≡ paste w at ws (k + 1)

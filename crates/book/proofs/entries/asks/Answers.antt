@@ -4,7 +4,6 @@ use mathlib.Core.Path.{◌∙◌, ap}
 use Rattle.common.specs.Lists.{same}
 use Rattle.book.specs.Words.{question_words}
 use Rattle.book.proofs.EntryWords.{asked_lent}
-use borrow.Author.Rules.{rules}
 use Rattle.book.proofs.entries.asks.Goals as goal
 
 pub returns : goal.returns

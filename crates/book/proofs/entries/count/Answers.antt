@@ -3,7 +3,6 @@
 use mathlib.Core.Path.{sym}
 use native.Mathlib.Omega.{arith}
 use lib.ListN.{get_or-eq_default}
-use borrow.Author.Rules.{rules}
 use Rattle.book.proofs.entries.count.Goals as goal
 
 pub returns-then-book-eq0 : goal.returns-then-book-eq0

@@ -3,7 +3,6 @@
 use mathlib.Core.Path.{sym, ◌∙◌, ap}
 use Rattle.book.specs.Helpers.{held_before}
 use Rattle.book.proofs.NumbersDiffer.{held_is}
-use borrow.Author.Rules.{rules}
 use Rattle.book.proofs.entries.find.Goals as goal
 
 pub returns : goal.returns

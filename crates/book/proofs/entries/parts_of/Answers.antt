@@ -2,7 +2,6 @@
 -- Assumes nothing.
 use mathlib.Core.Path.{◌∙◌}
 use Rattle.book.proofs.EntryWords.{parts_lent}
-use borrow.Author.Rules.{rules}
 use Rattle.book.proofs.entries.parts_of.Goals as goal
 
 pub returns : goal.returns

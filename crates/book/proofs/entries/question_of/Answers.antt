@@ -3,7 +3,6 @@
 use mathlib.Core.Path.{◌∙◌, ap}
 use Rattle.book.specs.Words.{question_of}
 use Rattle.book.proofs.EntryWords.{asked_lent}
-use borrow.Author.Rules.{rules}
 use Rattle.book.proofs.entries.question_of.Goals as goal
 
 pub returns : goal.returns

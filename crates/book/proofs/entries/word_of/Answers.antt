@@ -3,7 +3,6 @@
 use mathlib.Core.Path.{sym}
 use native.Mathlib.Omega.{arith}
 use Rattle.book.proofs.EntryWords.{word_at}
-use borrow.Author.Rules.{rules}
 use Rattle.book.proofs.entries.word_of.Goals as goal
 
 pub returns : goal.returns

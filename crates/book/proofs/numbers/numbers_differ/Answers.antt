@@ -1,15 +1,11 @@
 -- `book::numbers::numbers_differ` meets its contract. The loop's invariant: no entry passed repeats an earlier number or ranks above `top`.
 -- Assumes nothing.
-use Prim.Native.Nat.{◌≤◌, ◌-◌}
 use mathlib.Core.Path.{◌≡◌, sym, ◌∙◌}
-use mathlib.Core.Logic.{⊎_elim}
 use native.Mathlib.Omega.{arith}
-use Rattle.common.specs.Least.{least}
 use Rattle.common.specs.Lists.{up_to}
 use Rattle.common.proofs.Least.{start, more}
 use Rattle.book.specs.Words.{entry_at}
 use Rattle.book.specs.Sound.{repeats}
-use Rattle.book.specs.Helpers.{RanksUpTo}
 use Rattle.book.proofs.NumbersDiffer.{repeats_at, number_repeats, none_repeats, rank_words, ranks_none, ranks_more}
 use Rattle.book.proofs.numbers.numbers_differ.Goals as goal
 use Rattle.book.proofs.numbers.numbers_differ.Goals.{then-top-rank, else-top-rank}
@@ -27,21 +23,6 @@ returns-then-repeats_earlier c =
     let a = c.args in
     sym (number_repeats (entry_at a.book.now) a.n c.loop-i.i c.loop-i-test.true c.loop-i.invariant.1 (tested ∙ c.if-repeats_earlier.true))
 
-pub overflow_mul-i : goal.overflow_mul-i
-overflow_mul-i c = omega arith
-
-pub overflow_add-i : goal.overflow_add-i
-overflow_add-i c = omega arith
-
-pub rank_at-rank-requires : goal.rank_at-rank-requires
-rank_at-rank-requires c = omega arith
-
-pub overflow_add-i-in-loop-i : goal.overflow_add-i-in-loop-i
-overflow_add-i-in-loop-i c = omega arith
-
-pub loop-i-smaller : goal.loop-i-smaller
-loop-i-smaller c = omega arith
-
 pub loop-i-preserved : goal.loop-i-preserved
 loop-i-preserved c =
     let tested : let a = c.args in repeats (up_to (entry_at a.book.now) a.n) c.loop-i.i ≡ c.repeats_earlier.result = let a = c.args in
@@ -52,8 +33,8 @@ loop-i-preserved c =
       omega arith,
       more _ i c.loop-i.invariant.1 (tested ∙ c.if-repeats_earlier.false),
       elim c.if-top-rank.branch [
-        then-top-rank t ↦ ranks_more w i c.loop-i.top _ c.loop-i.invariant.2 (omega (arith, t.if-top-rank.true)) (omega (arith, ranked))
-      | else-top-rank t ↦ ranks_more w i c.loop-i.top _ c.loop-i.invariant.2 (omega arith) (omega (arith, ranked, t.if-top-rank.false))
+        | then-top-rank t ↦ ranks_more w i c.loop-i.top _ c.loop-i.invariant.2 (omega (arith, t.if-top-rank.true)) (omega (arith, ranked))
+        | else-top-rank t ↦ ranks_more w i c.loop-i.top _ c.loop-i.invariant.2 (omega arith) (omega (arith, ranked, t.if-top-rank.false))
       ],
     )
 

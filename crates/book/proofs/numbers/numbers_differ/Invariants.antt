@@ -1,16 +1,12 @@
 -- `book::numbers::numbers_differ` meets its contract. The loop's invariant: no entry passed repeats an earlier number or ranks above `top`.
 -- Assumes nothing.
 use Prim.Native.Nat.{◌≤◌, ◌-◌}
-use mathlib.Core.Path.{◌≡◌, sym, ◌∙◌}
-use mathlib.Core.Logic.{⊎_elim}
-use native.Mathlib.Omega.{arith}
+use mathlib.Core.Path.{◌≡◌}
 use Rattle.common.specs.Least.{least}
 use Rattle.common.specs.Lists.{up_to}
-use Rattle.common.proofs.Least.{start, more}
 use Rattle.book.specs.Words.{entry_at}
 use Rattle.book.specs.Sound.{repeats}
 use Rattle.book.specs.Helpers.{RanksUpTo}
-use Rattle.book.proofs.NumbersDiffer.{repeats_at, number_repeats, none_repeats, rank_words, ranks_none, ranks_more}
 use Rattle.book.proofs.numbers.numbers_differ.Given as goal
 
 abbrev pub invariant-loop-i : goal.invariant-loop-i

@@ -3,7 +3,6 @@
 use mathlib.Core.Path.{sym}
 use native.Mathlib.Nat.{add-zero}
 use native.Mathlib.Omega.{arith}
-use borrow.Author.Rules.{rules}
 use Rattle.book.specs.Words.{till_at, sequence_at}
 use Rattle.book.proofs.EntryWords.{word_at}
 use Rattle.book.proofs.NumbersDiffer.{rank_words, above_none}

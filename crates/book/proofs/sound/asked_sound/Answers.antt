@@ -5,7 +5,6 @@ use mathlib.Core.Path.{◌≡◌, sym, ◌∙◌, ap}
 use mathlib.Core.Bool.{true, ◌&&◌}
 use mathlib.Core.List.{List}
 use native.Mathlib.Omega.{arith}
-use borrow.Author.Rules.{rules}
 use Rattle.common.specs.Lists.{every, first_of, up_to}
 use Rattle.common.proofs.Tests.{fails, holds}
 use Rattle.fares.specs.Question.{leg_in_limits, card_slots, cards_in_limits, cards_differ}

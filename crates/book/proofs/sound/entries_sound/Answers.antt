@@ -1,11 +1,9 @@
 -- `book::sound::entries_sound` meets its contract. The loop's invariant: the entries passed are sound, so that those left decide.
 -- Assumes nothing.
-use Prim.Native.Nat.{◌≤◌, ◌-◌}
 use mathlib.Core.Path.{◌≡◌, refl, sym, ◌∙◌, ap}
 use native.Mathlib.Nat.{add-sub_cancel_left}
 use native.Mathlib.Omega.{arith}
 use lib.ListN.{drop, take}
-use Rattle.common.specs.Lists.{every, up_to}
 use Rattle.common.proofs.Lists.{upto_step, upto_end}
 use Rattle.common.proofs.Tests.{fails, holds}
 use Rattle.book.specs.Words.{width, entry_of, entry_at, start_of}
@@ -15,30 +13,6 @@ use Rattle.book.proofs.sound.entries_sound.Goals as goal
 pub loop-i-init : goal.loop-i-init
 loop-i-init c = (omega arith, refl)
 
-pub overflow_mul-at : goal.overflow_mul-at
-overflow_mul-at c = omega arith
-
-pub overflow_add-at : goal.overflow_add-at
-overflow_add-at c = omega arith
-
-pub overflow_add-end : goal.overflow_add-end
-overflow_add-end c = omega arith
-
-pub offset_bounds-book-at : goal.offset_bounds-book-at
-offset_bounds-book-at c = omega arith
-
-pub slice_bounds-entry_sound-count : goal.slice_bounds-entry_sound-count
-slice_bounds-entry_sound-count c = omega arith
-
-pub slice_bounds-entry_sound-start : goal.slice_bounds-entry_sound-start
-slice_bounds-entry_sound-start c = omega arith
-
-pub slice_bounds-entry_sound-end : goal.slice_bounds-entry_sound-end
-slice_bounds-entry_sound-end c = omega arith
-
-pub entry_sound-requires : goal.entry_sound-requires
-entry_sound-requires c = omega arith
-
 pub returns-then-not-entry_sound : goal.returns-then-not-entry_sound
 returns-then-not-entry_sound c =
     let told : c.entry_sound.result ≡ entry_sound (entry_at c.args.book.now c.loop-i.i) = let w = c.args.book.now in
@@ -47,12 +21,6 @@ returns-then-not-entry_sound c =
     let a = c.args in
     let t = c.loop-i-test.true in
     sym (c.loop-i.invariant.1 ∙ (upto_step (entry_at a.book.now) entry_sound a.n c.loop-i.i t ∙ rw (fails c.entry_sound.result c.if-not-entry_sound.true-raw (told))))
-
-pub overflow_add-i : goal.overflow_add-i
-overflow_add-i c = omega arith
-
-pub loop-i-smaller : goal.loop-i-smaller
-loop-i-smaller c = omega arith
 
 pub loop-i-preserved : goal.loop-i-preserved
 loop-i-preserved c =

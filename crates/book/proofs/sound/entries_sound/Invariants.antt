@@ -1,14 +1,10 @@
 -- `book::sound::entries_sound` meets its contract. The loop's invariant: the entries passed are sound, so that those left decide.
 -- Assumes nothing.
 use Prim.Native.Nat.{◌≤◌, ◌-◌}
-use mathlib.Core.Path.{◌≡◌, refl, sym, ◌∙◌, ap}
-use native.Mathlib.Nat.{add-sub_cancel_left}
-use native.Mathlib.Omega.{arith}
-use lib.ListN.{drop, take}
+use mathlib.Core.Path.{◌≡◌}
+use lib.ListN.{drop}
 use Rattle.common.specs.Lists.{every, up_to}
-use Rattle.common.proofs.Lists.{upto_step, upto_end}
-use Rattle.common.proofs.Tests.{fails, holds}
-use Rattle.book.specs.Words.{width, entry_of, entry_at, start_of}
+use Rattle.book.specs.Words.{entry_at}
 use Rattle.book.specs.Sound.{entry_sound}
 use Rattle.book.proofs.sound.entries_sound.Given as goal
 

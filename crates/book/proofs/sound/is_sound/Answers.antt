@@ -6,7 +6,6 @@ use mathlib.Core.Bool.{true, and-true}
 use native.Mathlib.Omega.{arith}
 use lib.Dec.{eqb, leb}
 use lib.ListN.{length}
-use borrow.Author.Rules.{rules}
 use borrow.Author.Tests.{eq-eqb, ne_eqb, le-leb, lt-leb}
 use Rattle.common.specs.Lists.{every, up_to}
 use Rattle.common.proofs.Parts.{rest_taken}

@@ -1,11 +1,10 @@
 -- `book::sound::legs_in_limits` meets its contract. The loop's invariant: the legs that are left decide.
 -- Assumes nothing.
-use Prim.Native.Nat.{◌≤◌, ◌-◌, ◌+◌}
+use Prim.Native.Nat.{◌+◌}
 use mathlib.Core.Bool.{◌&&◌}
 use mathlib.Core.Path.{◌≡◌, refl, sym, ◌∙◌}
 use native.Mathlib.Omega.{arith}
 use lib.ListN.{drop}
-use borrow.Author.Rules.{rules}
 use borrow.Author.Tests.{not-true, not-false}
 use Rattle.common.specs.Lists.{every, up_to}
 use Rattle.common.proofs.Lists.{upto_step, upto_end}
@@ -26,12 +25,6 @@ returns-then-not-leg_in_limits c =
     ∙ (upto_step (leg_of a.words.now) leg_in_limits a.count c.loop-j.j c.loop-j-test.true
     ∙ rw (c.leg_in_limits.ensures, c.leg_in.ensures)) in
     sym (head ∙ rw (not-true c.leg_in_limits.result c.if-not-leg_in_limits.true-raw))
-
-pub overflow_add-j : goal.overflow_add-j
-overflow_add-j c = omega arith
-
-pub loop-j-smaller : goal.loop-j-smaller
-loop-j-smaller c = omega arith
 
 pub loop-j-preserved : goal.loop-j-preserved
 loop-j-preserved c =

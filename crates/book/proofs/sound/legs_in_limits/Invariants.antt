@@ -1,14 +1,9 @@
 -- `book::sound::legs_in_limits` meets its contract. The loop's invariant: the legs that are left decide.
 -- Assumes nothing.
-use Prim.Native.Nat.{◌≤◌, ◌-◌, ◌+◌}
-use mathlib.Core.Bool.{◌&&◌}
-use mathlib.Core.Path.{◌≡◌, refl, sym, ◌∙◌}
-use native.Mathlib.Omega.{arith}
+use Prim.Native.Nat.{◌≤◌, ◌-◌}
+use mathlib.Core.Path.{◌≡◌}
 use lib.ListN.{drop}
-use borrow.Author.Rules.{rules}
-use borrow.Author.Tests.{not-true, not-false}
 use Rattle.common.specs.Lists.{every, up_to}
-use Rattle.common.proofs.Lists.{upto_step, upto_end}
 use Rattle.fares.specs.Question.{leg_in_limits}
 use Rattle.book.specs.Words.{leg_of}
 use Rattle.book.proofs.sound.legs_in_limits.Given as goal

@@ -1,21 +1,15 @@
 -- `book::sums::entry_owed` meets its contract. The loop's invariant: the sum is that of the parts before j that count, each of them a word or nothing.
 -- Assumes nothing.
-use Prim.Native.Nat.{◌+◌, ◌-◌, ◌*◌, ◌≤◌}
+use Prim.Native.Nat.{◌+◌}
 use mathlib.Core.Path.{◌≡◌, refl, sym, ◌∙◌, ap}
-use mathlib.Core.Logic.{⊎_elim}
 use native.Mathlib.Omega.{arith}
-use borrow.Author.Rules.{rules}
 use borrow.Author.Tests.{eq-eqb, ne_eqb}
 use Rattle.common.specs.Lists.{sum, up_to}
 use Rattle.common.proofs.Sums.{sum_up}
 use Rattle.book.specs.Words.{entry_of, parts_at}
-use Rattle.book.proofs.SoundBook.{most}
 use Rattle.book.proofs.BalanceSums.{counted_part, leg_counts, leg_counts_not, counted_is}
 use Rattle.book.proofs.sums.entry_owed.Goals as goal
 use Rattle.book.proofs.sums.entry_owed.Goals.{then-counts, else-counts}
-
-pub bounds-words-61 : goal.bounds-words-61
-bounds-words-61 c = omega arith
 
 pub returns-then-words-ne0 : goal.returns-then-words-ne0
 returns-then-words-ne0 c = sym (rw (ne_eqb _ _ c.if-words-ne0.true))
@@ -24,38 +18,11 @@ pub loop-j-init : goal.loop-j-init
 unfolding sum up_to
 loop-j-init c = (omega arith, omega arith, refl)
 
-pub overflow_mul-j : goal.overflow_mul-j
-overflow_mul-j c = omega arith
-
-pub overflow_add-j : goal.overflow_add-j
-overflow_add-j c = omega arith
-
-pub offset_bounds-words-j : goal.offset_bounds-words-j
-offset_bounds-words-j c = omega arith
-
-pub bounds-words-j : goal.bounds-words-j
-bounds-words-j c = omega arith
-
-pub overflow_add-sum : goal.overflow_add-sum
-overflow_add-sum c = omega arith
-
-pub offset_bounds-words-j-then-counts : goal.offset_bounds-words-j-then-counts
-offset_bounds-words-j-then-counts c = omega arith
-
-pub bounds-words-j-then-counts : goal.bounds-words-j-then-counts
-bounds-words-j-then-counts c = omega arith
-
 pub overflow_cast-sum : goal.overflow_cast-sum
 overflow_cast-sum c = omega (arith, c.shared_slice_known-then-counts-1.given (parts_at + c.loop-j.j))
 
 pub overflow_add-sum-then-counts : goal.overflow_add-sum-then-counts
 overflow_add-sum-then-counts c = omega (arith, c.shared_slice_known-then-counts-1.given (parts_at + c.loop-j.j))
-
-pub overflow_add-j-in-loop-j : goal.overflow_add-j-in-loop-j
-overflow_add-j-in-loop-j c = omega arith
-
-pub loop-j-smaller : goal.loop-j-smaller
-loop-j-smaller c = omega arith
 
 pub loop-j-preserved : goal.loop-j-preserved
 loop-j-preserved c =
@@ -65,8 +32,8 @@ loop-j-preserved c =
     let t = c.loop-j-test.true in
     let e = c.counts.ensures in
     elim c.if-counts.branch [
-      then-counts w ↦ (omega arith, omega (arith, n), omega (arith, s, leg_counts a.words.now a.railway c.loop-j.j t e w.if-counts.true))
-    | else-counts w ↦ (omega arith, omega arith, omega (arith, s, leg_counts_not a.words.now a.railway c.loop-j.j t e w.if-counts.false))
+      | then-counts w ↦ (omega arith, omega (arith, n), omega (arith, s, leg_counts a.words.now a.railway c.loop-j.j t e w.if-counts.true))
+      | else-counts w ↦ (omega arith, omega arith, omega (arith, s, leg_counts_not a.words.now a.railway c.loop-j.j t e w.if-counts.false))
     ]
 
 pub returns : goal.returns

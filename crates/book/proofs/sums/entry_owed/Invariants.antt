@@ -1,16 +1,11 @@
 -- `book::sums::entry_owed` meets its contract. The loop's invariant: the sum is that of the parts before j that count, each of them a word or nothing.
 -- Assumes nothing.
-use Prim.Native.Nat.{◌+◌, ◌-◌, ◌*◌, ◌≤◌}
-use mathlib.Core.Path.{◌≡◌, refl, sym, ◌∙◌, ap}
-use mathlib.Core.Logic.{⊎_elim}
-use native.Mathlib.Omega.{arith}
-use borrow.Author.Rules.{rules}
-use borrow.Author.Tests.{eq-eqb, ne_eqb}
+use Prim.Native.Nat.{◌-◌, ◌*◌, ◌≤◌}
+use mathlib.Core.Path.{◌≡◌}
 use Rattle.common.specs.Lists.{sum, up_to}
-use Rattle.common.proofs.Sums.{sum_up}
-use Rattle.book.specs.Words.{entry_of, parts_at}
+use Rattle.book.specs.Words.{entry_of}
 use Rattle.book.proofs.SoundBook.{most}
-use Rattle.book.proofs.BalanceSums.{counted_part, leg_counts, leg_counts_not, counted_is}
+use Rattle.book.proofs.BalanceSums.{counted_part}
 use Rattle.book.proofs.sums.entry_owed.Given as goal
 
 abbrev pub invariant-loop-j : goal.invariant-loop-j

@@ -1,6 +1,6 @@
 -- `book::sums::owed` meets its contract. The loop's invariant: the sum is the balance of the entries before i, each of them small.
 -- Assumes nothing.
-use Prim.Native.Nat.{ℕ, ◌+◌, ◌-◌, ◌≤◌}
+use Prim.Native.Nat.{ℕ, ◌+◌, ◌≤◌}
 use native.Mathlib.Omega.{arith}
 use lib.ListN.{get_or}
 use borrow.Author.Rules.{rules}
@@ -45,9 +45,6 @@ offset_bounds-book-at c =
     let few : count_of c.args.book.now ≤ capacity = sound.few in
     omega (arith, few)
 
-pub slice_bounds-entry_owed-count : goal.slice_bounds-entry_owed-count
-slice_bounds-entry_owed-count c = omega arith
-
 pub slice_bounds-entry_owed-end : goal.slice_bounds-entry_owed-end
 slice_bounds-entry_owed-end c =
     let sound : IsSound c.args.book.now = is_sound c.args.book.now c.requires in
@@ -77,9 +74,6 @@ overflow_add-i c =
     let sound : IsSound c.args.book.now = is_sound c.args.book.now c.requires in
     let few : count_of c.args.book.now ≤ capacity = sound.few in
     omega (arith, few)
-
-pub loop-i-smaller : goal.loop-i-smaller
-loop-i-smaller c = omega arith
 
 pub loop-i-preserved : goal.loop-i-preserved
 loop-i-preserved c =

@@ -1,13 +1,9 @@
 -- `book::words::all_bounded` meets its contract. The loop's invariant: whether the words passed are within the bound, and what is left, decide.
 -- Assumes nothing.
 use Prim.Native.Nat.{◌≤◌, ◌-◌}
-use mathlib.Core.Path.{◌≡◌, refl, sym, ◌∙◌}
-use mathlib.Core.Bool.{◌&&◌, and_assoc, and-true}
-use native.Mathlib.Omega.{arith}
-use lib.Dec.{leb}
+use mathlib.Core.Path.{◌≡◌}
+use mathlib.Core.Bool.{◌&&◌}
 use lib.ListN.{length, drop}
-use borrow.Author.Rules.{rules}
-use Rattle.common.proofs.Lists.{every_step, every_end}
 use Rattle.book.specs.Sound.{is_bounded}
 use Rattle.book.proofs.words.all_bounded.Given as goal
 

@@ -1,7 +1,6 @@
 -- `book::words::all_zero` meets its contract.
 -- Assumes nothing.
 use mathlib.Core.Path.{◌∙◌}
-use borrow.Author.Rules.{rules}
 use Rattle.book.proofs.SoundBook.{bounded_by_zero}
 use Rattle.book.proofs.words.all_zero.Goals as goal
 

@@ -1,7 +1,6 @@
 -- `book::words::cards_in` meets its contract.
 -- Assumes nothing.
 use mathlib.Core.Path.{refl}
-use borrow.Author.Rules.{rules}
 use Rattle.common.specs.Lists.{up_to}
 use Rattle.book.specs.Words.{question_of}
 use Rattle.book.proofs.words.cards_in.Goals as goal

@@ -1,7 +1,6 @@
 -- `book::words::leg_at` meets its contract.
 -- Assumes nothing.
 use native.Mathlib.Omega.{arith}
-use borrow.Author.Rules.{rules}
 use borrow.Author.Tests.{lt-ltb, le-ltb}
 use Rattle.book.proofs.words.leg_at.Goals as goal
 

@@ -1,13 +1,9 @@
 -- `book::words::legs_clear` meets its contract. The loop's invariant: the legs passed are clear, so that those left decide.
 -- Assumes nothing.
-use Prim.Native.Nat.{ℕ, ◌+◌, ◌≤◌, ◌-◌}
-use mathlib.Core.Path.{◌≡◌, refl, sym, ◌∙◌}
-use mathlib.Core.Bool.{◌&&◌, and-false}
-use native.Mathlib.Omega.{arith}
+use Prim.Native.Nat.{◌≤◌, ◌-◌}
+use mathlib.Core.Path.{◌≡◌}
 use lib.ListN.{drop}
-use borrow.Author.Tests.{eq-eqb, ne_eqb}
 use Rattle.common.specs.Lists.{every, up_to}
-use Rattle.common.proofs.Lists.{upto_step, upto_end}
 use Rattle.book.specs.Helpers.{leg_clear, legs_clear}
 use Rattle.book.proofs.words.legs_clear.Given as goal
 

@@ -1,9 +1,8 @@
 -- `book::words::legs_in` meets its contract. The loop's invariant: the legs passed are those that the words say.
 -- Assumes nothing.
-use Prim.Native.Nat.{ℕ, ◌≤◌, ◌<◌, ◌-◌}
-use mathlib.Core.Path.{◌≡◌, sym, ◌∙◌}
+use mathlib.Core.Path.{sym, ◌∙◌}
 use native.Mathlib.Omega.{arith}
-use lib.ListN.{length, get_or, length-set}
+use lib.ListN.{length-set}
 use lib.Seq.{ext_get_or, get_or-set_same}
 use borrow.Author.Count.{below_none, below_more}
 use borrow.Author.Rules.{rules, read_below}

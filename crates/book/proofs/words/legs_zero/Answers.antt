@@ -1,6 +1,6 @@
 -- `book::words::legs_zero` meets its contract. The loop's invariant: the sum, and that of the legs that are left, are that of all.
 -- Assumes nothing.
-use Prim.Native.Nat.{ℕ, ◌+◌, ◌-◌, ◌*◌, ◌≤◌, ◌<◌}
+use Prim.Native.Nat.{ℕ, ◌+◌, ◌*◌, ◌≤◌, ◌<◌}
 use mathlib.Core.Path.{◌≡◌, ◌∙◌, ap}
 use mathlib.Core.List.{List}
 use native.Mathlib.Numerals.{add-one}
@@ -8,7 +8,6 @@ use native.Mathlib.Omega.{arith}
 use lib.Dec.{eqb}
 use lib.ListN.{length, get_or, drop, drop_of_length-le}
 use lib.Seq.{drop-cons}
-use borrow.Author.Rules.{rules}
 use Rattle.common.specs.Lists.{sum}
 use Rattle.common.proofs.Sums.{zero_sum}
 use Rattle.book.specs.Words.{railway_at, fare_at, third_at, fourth_at, question_width}
@@ -35,45 +34,12 @@ leg-behind ws j long l =
 pub loop-j-init : goal.loop-j-init
 loop-j-init c = (omega arith, omega arith, omega arith)
 
-pub overflow_mul-at : goal.overflow_mul-at
-overflow_mul-at c = omega arith
-
-pub overflow_add-at : goal.overflow_add-at
-overflow_add-at c = omega arith
-
-pub offset_bounds-words-at : goal.offset_bounds-words-at
-offset_bounds-words-at c = omega arith
-
-pub overflow_add-at-in-loop-j : goal.overflow_add-at-in-loop-j
-overflow_add-at-in-loop-j c = omega arith
-
-pub offset_bounds-words-at-in-loop-j : goal.offset_bounds-words-at-in-loop-j
-offset_bounds-words-at-in-loop-j c = omega arith
-
-pub overflow_add-at-in-loop-j-2 : goal.overflow_add-at-in-loop-j-2
-overflow_add-at-in-loop-j-2 c = omega arith
-
-pub offset_bounds-words-at-in-loop-j-2 : goal.offset_bounds-words-at-in-loop-j-2
-offset_bounds-words-at-in-loop-j-2 c = omega arith
-
-pub overflow_add-at-in-loop-j-3 : goal.overflow_add-at-in-loop-j-3
-overflow_add-at-in-loop-j-3 c = omega arith
-
-pub offset_bounds-words-at-in-loop-j-3 : goal.offset_bounds-words-at-in-loop-j-3
-offset_bounds-words-at-in-loop-j-3 c = omega arith
-
 pub overflow_add-sum : goal.overflow_add-sum
 overflow_add-sum c =
     let small : c.sum_of_four-sum.result ≤ 4 * most = let k = c.shared_slice_known-in-loop-j-4-1 in
     let j = c.loop-j.j in
     omega (arith, c.sum_of_four-sum.ensures, k.given (railway_at j), k.given (fare_at j), k.given (third_at j), k.given (fourth_at j)) in
     omega (arith, small)
-
-pub overflow_add-j : goal.overflow_add-j
-overflow_add-j c = omega arith
-
-pub loop-j-smaller : goal.loop-j-smaller
-loop-j-smaller c = omega arith
 
 pub loop-j-preserved : goal.loop-j-preserved
 loop-j-preserved c =

@@ -1,17 +1,10 @@
 -- `book::words::legs_zero` meets its contract. The loop's invariant: the sum, and that of the legs that are left, are that of all.
 -- Assumes nothing.
-use Prim.Native.Nat.{ℕ, ◌+◌, ◌-◌, ◌*◌, ◌≤◌, ◌<◌}
-use mathlib.Core.Path.{◌≡◌, ◌∙◌, ap}
-use mathlib.Core.List.{List}
-use native.Mathlib.Numerals.{add-one}
-use native.Mathlib.Omega.{arith}
-use lib.Dec.{eqb}
-use lib.ListN.{length, get_or, drop, drop_of_length-le}
-use lib.Seq.{drop-cons}
-use borrow.Author.Rules.{rules}
+use Prim.Native.Nat.{◌+◌, ◌-◌, ◌*◌, ◌≤◌}
+use mathlib.Core.Path.{◌≡◌}
+use lib.ListN.{drop}
 use Rattle.common.specs.Lists.{sum}
-use Rattle.common.proofs.Sums.{zero_sum}
-use Rattle.book.specs.Words.{railway_at, fare_at, third_at, fourth_at, question_width}
+use Rattle.book.specs.Words.{railway_at}
 use Rattle.book.proofs.SoundBook.{most}
 use Rattle.book.proofs.words.legs_zero.Given as goal
 

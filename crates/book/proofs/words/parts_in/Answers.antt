@@ -1,6 +1,6 @@
 -- `book::words::parts_in` meets its contract. The loop's invariant: the parts passed are the words from the place on.
 -- Assumes nothing.
-use Prim.Native.Nat.{ℕ, ◌+◌, ◌≤◌, ◌<◌, ◌-◌}
+use Prim.Native.Nat.{◌+◌}
 use mathlib.Core.Path.{◌≡◌, sym, ◌∙◌}
 use native.Mathlib.Omega.{arith}
 use lib.ListN.{length, get_or, take, drop, length-set, length-drop}
@@ -11,27 +11,6 @@ use Rattle.book.proofs.words.parts_in.Goals as goal
 
 pub loop-j-init : goal.loop-j-init
 loop-j-init c = (omega arith, search rules, below_none _)
-
-pub overflow_add-parts : goal.overflow_add-parts
-overflow_add-parts c = omega arith
-
-pub offset_bounds-book-at : goal.offset_bounds-book-at
-offset_bounds-book-at c = omega arith
-
-pub bounds-book-at : goal.bounds-book-at
-bounds-book-at c = omega arith
-
-pub offset_bounds-parts-j : goal.offset_bounds-parts-j
-offset_bounds-parts-j c = omega arith
-
-pub bounds-parts-j : goal.bounds-parts-j
-bounds-parts-j c = omega arith
-
-pub overflow_add-j : goal.overflow_add-j
-overflow_add-j c = omega arith
-
-pub loop-j-smaller : goal.loop-j-smaller
-loop-j-smaller c = omega arith
 
 pub loop-j-preserved : goal.loop-j-preserved
 loop-j-preserved c =

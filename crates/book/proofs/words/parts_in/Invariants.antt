@@ -1,12 +1,8 @@
 -- `book::words::parts_in` meets its contract. The loop's invariant: the parts passed are the words from the place on.
 -- Assumes nothing.
 use Prim.Native.Nat.{ℕ, ◌+◌, ◌≤◌, ◌<◌, ◌-◌}
-use mathlib.Core.Path.{◌≡◌, sym, ◌∙◌}
-use native.Mathlib.Omega.{arith}
-use lib.ListN.{length, get_or, take, drop, length-set, length-drop}
-use lib.Seq.{ext_get_or, get_or-take, get_or-drop, get_or-set_same, length-take-le}
-use borrow.Author.Count.{below_none, below_more}
-use borrow.Author.Rules.{rules, read_below}
+use mathlib.Core.Path.{◌≡◌}
+use lib.ListN.{length, get_or}
 use Rattle.book.proofs.words.parts_in.Given as goal
 
 abbrev pub invariant-loop-j : goal.invariant-loop-j

@@ -1,7 +1,6 @@
 -- `book::words::question_in` meets its contract.
 -- Assumes nothing.
 use mathlib.Core.Path.{ap₂}
-use borrow.Author.Rules.{rules}
 use Rattle.book.specs.Words.{question_of}
 use Rattle.book.proofs.words.question_in.Goals as goal
 

@@ -1,9 +1,7 @@
 -- `book::words::question_words` meets its contract. The loop's invariant: the words before the legs stand, and the legs before j.
 -- Assumes nothing.
-use Prim.Native.Nat.{◌-◌, ◌≤◌}
 use mathlib.Core.Path.{◌≡◌, ◌∙◌, ap}
 use native.Mathlib.Omega.{arith}
-use borrow.Author.Rules.{rules}
 use Rattle.common.specs.Lists.{up_to}
 use Rattle.book.proofs.QuestionWords.{written, none_written, leg_written, all_written}
 use Rattle.book.proofs.words.question_words.Goals as goal

@@ -1,11 +1,8 @@
 -- `book::words::question_words` meets its contract. The loop's invariant: the words before the legs stand, and the legs before j.
 -- Assumes nothing.
 use Prim.Native.Nat.{◌-◌, ◌≤◌}
-use mathlib.Core.Path.{◌≡◌, ◌∙◌, ap}
-use native.Mathlib.Omega.{arith}
-use borrow.Author.Rules.{rules}
-use Rattle.common.specs.Lists.{up_to}
-use Rattle.book.proofs.QuestionWords.{written, none_written, leg_written, all_written}
+use mathlib.Core.Path.{◌≡◌}
+use Rattle.book.proofs.QuestionWords.{written}
 use Rattle.book.proofs.words.question_words.Given as goal
 
 abbrev pub invariant-loop-j : goal.invariant-loop-j

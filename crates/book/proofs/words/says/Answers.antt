@@ -1,16 +1,14 @@
 -- `book::words::says` meets its contract. The loop's invariant: as many words are alike as were passed exactly if all of them are.
 -- Assumes nothing.
-use Prim.Native.Nat.{ℕ, ◌+◌, ◌-◌, ◌≤◌, ◌<◌}
+use Prim.Native.Nat.{ℕ, ◌+◌}
 use mathlib.Core.Path.{◌≡◌, refl, sym, ◌∙◌, ap}
 use mathlib.Core.Bool.{Bool, true, false}
 use mathlib.Core.List.{List}
-use mathlib.Core.Logic.{⊎_elim}
 use native.Mathlib.Omega.{arith}
 use lib.Dec.{eqb}
 use lib.ListN.{length, get_or}
 use lib.Seq.{ext_get_or}
 use borrow.Author.Count.{below_none, below_more}
-use borrow.Author.Rules.{rules}
 use borrow.Author.Tests.{eq-eqb, ne_eqb}
 use Rattle.common.specs.Lists.{same}
 use Rattle.common.proofs.Lists.{is_same, same_is}
@@ -42,12 +40,11 @@ loop-k-init c = (omega arith, record { most = omega arith; to = λ i. below_none
 
 pub loop-k-preserved : goal.loop-k-preserved
 loop-k-preserved c =
-    let a = c.loop-k.invariant.1 in
-    (
+    let a = c.loop-k.invariant.1 in (
       omega arith,
       elim c.if-words-k.branch [
-        then-words-k w ↦ one_more w.if-words-k.true (omega arith) a
-      | else-words-k w ↦ no_more w.if-words-k.false (omega arith) a
+        | then-words-k w ↦ one_more w.if-words-k.true (omega arith) a
+        | else-words-k w ↦ no_more w.if-words-k.false (omega arith) a
       ],
     )
 

@@ -1,22 +1,10 @@
 -- `book::words::says` meets its contract. The loop's invariant: as many words are alike as were passed exactly if all of them are.
 -- Assumes nothing.
-use Prim.Native.Nat.{ℕ, ◌+◌, ◌-◌, ◌≤◌, ◌<◌}
-use mathlib.Core.Path.{◌≡◌, refl, sym, ◌∙◌, ap}
-use mathlib.Core.Bool.{Bool, true, false}
+use Prim.Native.Nat.{ℕ, ◌-◌, ◌≤◌, ◌<◌}
+use mathlib.Core.Path.{◌≡◌}
 use mathlib.Core.List.{List}
-use mathlib.Core.Logic.{⊎_elim}
-use native.Mathlib.Omega.{arith}
-use lib.Dec.{eqb}
-use lib.ListN.{length, get_or}
-use lib.Seq.{ext_get_or}
-use borrow.Author.Count.{below_none, below_more}
-use borrow.Author.Rules.{rules}
-use borrow.Author.Tests.{eq-eqb, ne_eqb}
-use Rattle.common.specs.Lists.{same}
-use Rattle.common.proofs.Lists.{is_same, same_is}
-use Rattle.common.proofs.Tests.{never}
+use lib.ListN.{get_or}
 use Rattle.book.specs.Words.{question_width}
-use Rattle.book.proofs.QuestionWords.{words_length}
 use Rattle.book.proofs.words.says.Given as goal
 
 abbrev pub AllAlike : List ℕ → List ℕ → ℕ → Type 0

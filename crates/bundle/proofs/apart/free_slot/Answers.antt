@@ -1,13 +1,9 @@
 -- `bundle::apart::free_slot` meets its contract. The loop's invariant: the slot is that of try k of the number, and those before it are passed.
 -- Assumes nothing.
-use Prim.Native.Nat.{◌-◌}
-use mathlib.Core.Path.{◌≡◌, sym, ◌∙◌}
+use mathlib.Core.Path.{sym, ◌∙◌}
 use native.Mathlib.Omega.{arith}
-use lib.ListN.{length}
-use borrow.Author.Rules.{rules}
 use Rattle.seen.specs.Seen.{slot_of}
 use Rattle.bundle.specs.Records.{rec}
-use Rattle.bundle.specs.Apart.{Passed}
 use Rattle.bundle.proofs.KeptPlaces.{way_on}
 use Rattle.bundle.proofs.apart.free_slot.Goals as goal
 
@@ -22,9 +18,6 @@ returns-then-head_at-eq0 c =
 
 pub returns-then-slot_clashes : goal.returns-then-slot_clashes
 returns-then-slot_clashes c = λ inside. absurd (omega arith)
-
-pub loop-k-smaller : goal.loop-k-smaller
-loop-k-smaller c = omega arith
 
 pub loop-k-preserved : goal.loop-k-preserved
 loop-k-preserved c =

@@ -1,14 +1,11 @@
 -- `bundle::apart::free_slot` meets its contract. The loop's invariant: the slot is that of try k of the number, and those before it are passed.
 -- Assumes nothing.
 use Prim.Native.Nat.{◌-◌}
-use mathlib.Core.Path.{◌≡◌, sym, ◌∙◌}
-use native.Mathlib.Omega.{arith}
+use mathlib.Core.Path.{◌≡◌}
 use lib.ListN.{length}
-use borrow.Author.Rules.{rules}
 use Rattle.seen.specs.Seen.{slot_of}
 use Rattle.bundle.specs.Records.{rec}
 use Rattle.bundle.specs.Apart.{Passed}
-use Rattle.bundle.proofs.KeptPlaces.{way_on}
 use Rattle.bundle.proofs.apart.free_slot.Given as goal
 
 abbrev pub invariant-loop-k : goal.invariant-loop-k

@@ -1,6 +1,5 @@
 -- `bundle::apart::is_apart` meets its contract.
 -- Assumes nothing.
-use borrow.Author.Rules.{rules}
 use Rattle.bundle.specs.Records.{rec}
 use Rattle.bundle.proofs.KeptPlaces.{put_tells}
 use Rattle.bundle.proofs.apart.is_apart.Goals as goal

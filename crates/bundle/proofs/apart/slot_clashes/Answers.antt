@@ -1,6 +1,5 @@
 -- `bundle::apart::slot_clashes` meets its contract.
 -- Assumes nothing.
-use borrow.Author.Rules.{rules}
 use borrow.Author.Tests.{not-true, not-false}
 use Rattle.bundle.specs.Apart.{slot_clashes}
 use Rattle.bundle.proofs.apart.slot_clashes.Goals as goal

@@ -1,7 +1,6 @@
 -- `bundle::hints::name` meets its contract.
 -- Assumes nothing.
 use mathlib.Core.Path.{◌∙◌}
-use borrow.Author.Rules.{rules}
 use Rattle.bundle.specs.Hints.{name_of}
 use Rattle.bundle.proofs.hints.name.Goals as goal
 

@@ -1,12 +1,10 @@
 -- `bundle::hints::note_all` meets its contract. The loop's invariant: the loop stands at record i, and the hints are places.
 -- Assumes nothing.
-use Prim.Native.Nat.{ℕ, ◌+◌, ◌-◌}
-use mathlib.Core.Path.{◌≡◌, refl}
+use Prim.Native.Nat.{◌+◌}
+use mathlib.Core.Path.{refl}
 use native.Mathlib.Omega.{arith}
-use lib.ListN.{length}
 use borrow.Author.Rules.{rules}
-use Rattle.bundle.specs.Hints.{Hinted}
-use Rattle.bundle.proofs.Here.{Here, Stands, here_start, stands}
+use Rattle.bundle.proofs.Here.{Stands, here_start, stands}
 use Rattle.bundle.proofs.hints.note_all.Goals as goal
 
 pub loop-table-init : goal.loop-table-init

@@ -1,6 +1,5 @@
 -- `bundle::hints::number` meets its contract.
 -- Assumes nothing.
-use borrow.Author.Rules.{rules}
 use Rattle.bundle.specs.Hints.{hint_number}
 use Rattle.bundle.proofs.hints.number.Goals as goal
 

@@ -1,6 +1,5 @@
 -- `bundle::hints::put` meets its contract.
 -- Assumes nothing.
-use borrow.Author.Rules.{rules}
 use Rattle.bundle.proofs.HintedPlaces.{hint_put}
 use Rattle.bundle.proofs.hints.put.Goals as goal
 

@@ -1,10 +1,7 @@
 -- `bundle::hints::slot_of` stays inside the hints. The loop's invariant: the slot is one of them.
 -- Assumes nothing.
 use Prim.Native.Nat.{◌<◌, ◌≤◌, ◌-◌}
-use native.Mathlib.Omega.{arith}
-use native.Mathlib.Nat.{mod-lt}
 use lib.ListN.{length}
-use borrow.Author.Rules.{rules}
 use Rattle.bundle.proofs.hints.slot_of.Given as goal
 
 abbrev pub invariant-loop-k : goal.invariant-loop-k

@@ -1,6 +1,5 @@
 -- `bundle::keys::clashes` meets its contract.
 -- Assumes nothing.
-use borrow.Author.Rules.{rules}
 use borrow.Author.Tests.{eq-eqb, ne_eqb, not-true, not-false}
 use Rattle.bundle.specs.Keys.{clash}
 use Rattle.bundle.proofs.keys.clashes.Goals as goal

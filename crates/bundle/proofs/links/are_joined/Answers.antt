@@ -1,6 +1,5 @@
 -- `bundle::links::are_joined` meets its contract.
 -- Assumes nothing.
-use borrow.Author.Rules.{rules}
 use borrow.Author.Tests.{eq-eqb, ne_eqb, not-true, not-false}
 use Rattle.bundle.specs.Links.{joins}
 use Rattle.bundle.proofs.links.are_joined.Goals as goal

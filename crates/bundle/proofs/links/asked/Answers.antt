@@ -1,6 +1,5 @@
 -- `bundle::links::asked` meets its contract.
 -- Assumes nothing.
-use borrow.Author.Rules.{rules}
 use borrow.Author.Tests.{eq-eqb, ne_eqb}
 use Rattle.bundle.specs.Links.{is_asked}
 use Rattle.bundle.proofs.links.asked.Goals as goal

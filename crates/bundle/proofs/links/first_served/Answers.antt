@@ -1,16 +1,15 @@
 -- `bundle::links::first_served` meets its contract. The loop's invariant: the loop stands at record i, and the records from it on decide.
 -- Assumes nothing.
-use Prim.Native.Nat.{ℕ, ◌+◌, ◌-◌}
+use Prim.Native.Nat.{◌+◌}
 use mathlib.Core.Path.{◌≡◌, refl, sym, ◌∙◌}
 use mathlib.Core.Bool.{false}
 use native.Mathlib.Omega.{arith}
-use lib.ListN.{length, drop}
-use borrow.Author.Rules.{rules}
+use lib.ListN.{drop}
 use Rattle.common.specs.Lists.{any}
 use Rattle.common.proofs.Lists.{at_any}
 use Rattle.bundle.specs.Records.{rec, no_rec, between, records_of}
 use Rattle.bundle.specs.Links.{serves}
-use Rattle.bundle.proofs.Here.{Here, Stands, here_start, stands, over_there, over_nil}
+use Rattle.bundle.proofs.Here.{Stands, here_start, stands, over_there, over_nil}
 use Rattle.bundle.proofs.PassLaws.{not_wanted}
 use Rattle.bundle.proofs.links.first_served.Goals as goal
 

@@ -1,17 +1,12 @@
 -- `bundle::links::first_served` meets its contract. The loop's invariant: the loop stands at record i, and the records from it on decide.
 -- Assumes nothing.
-use Prim.Native.Nat.{ℕ, ◌+◌, ◌-◌}
-use mathlib.Core.Path.{◌≡◌, refl, sym, ◌∙◌}
-use mathlib.Core.Bool.{false}
-use native.Mathlib.Omega.{arith}
+use Prim.Native.Nat.{ℕ, ◌-◌}
+use mathlib.Core.Path.{◌≡◌}
 use lib.ListN.{length, drop}
-use borrow.Author.Rules.{rules}
 use Rattle.common.specs.Lists.{any}
-use Rattle.common.proofs.Lists.{at_any}
-use Rattle.bundle.specs.Records.{rec, no_rec, between, records_of}
+use Rattle.bundle.specs.Records.{rec, records_of}
 use Rattle.bundle.specs.Links.{serves}
-use Rattle.bundle.proofs.Here.{Here, Stands, here_start, stands, over_there, over_nil}
-use Rattle.bundle.proofs.PassLaws.{not_wanted}
+use Rattle.bundle.proofs.Here.{Here}
 use Rattle.bundle.proofs.links.first_served.Given as goal
 
 abbrev pub invariant-loop-t : goal.invariant-loop-t

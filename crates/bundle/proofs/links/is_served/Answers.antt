@@ -1,7 +1,6 @@
 -- `bundle::links::is_served` meets its contract.
 -- Assumes nothing.
 use mathlib.Core.Path.{sym, ◌∙◌}
-use borrow.Author.Rules.{rules}
 use Rattle.bundle.proofs.HintedPlaces.{served_there, searched}
 use Rattle.bundle.proofs.links.is_served.Goals as goal
 

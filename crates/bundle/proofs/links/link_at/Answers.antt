@@ -3,7 +3,6 @@
 use mathlib.Core.Path.{sym, ◌∙◌}
 use native.Mathlib.Omega.{arith}
 use lib.ListN.{get_or-eq_default}
-use borrow.Author.Rules.{rules}
 use Rattle.bundle.specs.Links.{link_rows, no_link}
 use Rattle.bundle.proofs.links.link_at.Goals as goal
 

@@ -1,15 +1,10 @@
 -- `bundle::links::missing_link` meets its contract. The loop's invariant: no link before k is lacked, and the hints are places.
 -- Assumes nothing.
-use Prim.Native.Nat.{◌≤◌, ◌-◌}
 use mathlib.Core.Path.{◌≡◌, refl, sym, ◌∙◌}
 use native.Mathlib.Omega.{arith}
-use lib.ListN.{length}
 use borrow.Author.Rules.{rules}
-use Rattle.common.specs.Least.{least}
 use Rattle.common.proofs.Least.{start, more, hit}
-use Rattle.bundle.specs.Records.{rec, records_of}
-use Rattle.bundle.specs.Links.{links, lacks, missing_link}
-use Rattle.bundle.specs.Hints.{Hinted}
+use Rattle.bundle.specs.Links.{links, missing_link}
 use Rattle.bundle.proofs.links.missing_link.Goals as goal
 
 pub loop-k-init : goal.loop-k-init
@@ -21,12 +16,6 @@ lacks_link-requires c = c.loop-k.invariant.2
 pub returns-then-lacks_link : goal.returns-then-lacks_link
 unfolding missing_link
 returns-then-lacks_link c = (sym (hit _ _ links c.loop-k.invariant.1 (sym c.lacks_link.ensures.0 ∙ c.if-lacks_link.true) c.loop-k-test.true), c.lacks_link.ensures.1)
-
-pub overflow_add-k : goal.overflow_add-k
-overflow_add-k c = omega arith
-
-pub loop-k-smaller : goal.loop-k-smaller
-loop-k-smaller c = omega arith
 
 pub loop-k-preserved : goal.loop-k-preserved
 loop-k-preserved c = (omega arith, more _ _ c.loop-k.invariant.1 (sym c.lacks_link.ensures.0 ∙ c.if-lacks_link.false), c.lacks_link.ensures.1, search rules)

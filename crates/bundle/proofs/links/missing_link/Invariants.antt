@@ -1,14 +1,11 @@
 -- `bundle::links::missing_link` meets its contract. The loop's invariant: no link before k is lacked, and the hints are places.
 -- Assumes nothing.
 use Prim.Native.Nat.{◌≤◌, ◌-◌}
-use mathlib.Core.Path.{◌≡◌, refl, sym, ◌∙◌}
-use native.Mathlib.Omega.{arith}
+use mathlib.Core.Path.{◌≡◌}
 use lib.ListN.{length}
-use borrow.Author.Rules.{rules}
 use Rattle.common.specs.Least.{least}
-use Rattle.common.proofs.Least.{start, more, hit}
 use Rattle.bundle.specs.Records.{rec, records_of}
-use Rattle.bundle.specs.Links.{links, lacks, missing_link}
+use Rattle.bundle.specs.Links.{links, lacks}
 use Rattle.bundle.specs.Hints.{Hinted}
 use Rattle.bundle.proofs.links.missing_link.Given as goal
 

@@ -1,6 +1,5 @@
 -- `bundle::links::railway_serves` meets its contract.
 -- Assumes nothing.
-use borrow.Author.Rules.{rules}
 use Rattle.bundle.specs.Links.{railway_serves}
 use Rattle.bundle.proofs.links.railway_serves.Goals as goal
 

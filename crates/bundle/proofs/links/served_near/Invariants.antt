@@ -1,11 +1,7 @@
 -- `bundle::links::served_near` meets its contract. The loop's invariant: the loop stands at some record, or where the records end.
 -- Assumes nothing.
 use Prim.Native.Nat.{ℕ, ◌-◌}
-use mathlib.Core.Path.{sym, ◌∙◌}
-use native.Mathlib.Omega.{arith}
-use borrow.Author.Rules.{rules}
 use Rattle.bundle.proofs.Here.{Here}
-use Rattle.bundle.proofs.HintedPlaces.{place_here, found_here, here_behind}
 use Rattle.bundle.proofs.links.served_near.Given as goal
 
 abbrev pub invariant-loop-k : goal.invariant-loop-k

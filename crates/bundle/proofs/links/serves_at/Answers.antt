@@ -4,7 +4,6 @@ use Prim.Native.Nat.{◌≤◌}
 use mathlib.Core.Path.{◌∙◌}
 use native.Mathlib.Omega.{arith}
 use lib.ListN.{length}
-use borrow.Author.Rules.{rules}
 use Rattle.bundle.specs.Hints.{serves_at}
 use Rattle.bundle.proofs.Here.{over_there, step_lies, over_told, whole_told}
 use Rattle.bundle.proofs.links.serves_at.Goals as goal

@@ -1,6 +1,5 @@
 -- `bundle::links::serves_it` meets its contract.
 -- Assumes nothing.
-use borrow.Author.Rules.{rules}
 use Rattle.bundle.proofs.PassLaws.{not_wanted, wanted}
 use Rattle.bundle.proofs.links.serves_it.Goals as goal
 

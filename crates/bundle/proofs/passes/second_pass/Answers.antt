@@ -1,15 +1,14 @@
 -- `bundle::passes::second_pass` meets its contract. The outer loop stands at record i, the pass finds what it finds from there on, the records
 -- before are kept unless it says so no more, and the hints are places; the inner loop stands at record j, and record i clashes with none before it.
 -- Assumes nothing.
-use Prim.Native.Nat.{ℕ, ◌+◌, ◌-◌, ◌≤◌}
+use Prim.Native.Nat.{ℕ, ◌+◌}
 use mathlib.Core.Path.{◌≡◌, refl, sym, ◌∙◌, ap}
 use mathlib.Core.Bool.{true, false, not}
-use mathlib.Core.Logic.{⊎_elim}
 use mathlib.Core.List.{List}
 use native.Mathlib.Omega.{arith}
-use lib.ListN.{length, get_or}
+use lib.ListN.{get_or}
 use borrow.Author.Rules.{rules}
-use Rattle.common.specs.Checks.{refuse, first_fault}
+use Rattle.common.specs.Checks.{refuse}
 use Rattle.common.specs.Least.{least}
 use Rattle.common.proofs.Checks.{as_found}
 use Rattle.common.proofs.Tests.{never}
@@ -18,12 +17,10 @@ use Rattle.bundle.specs.Records.{Rec, rec, no_rec, between, records_of}
 use Rattle.bundle.specs.Keys.{clash, other_transferor, earlier_of}
 use Rattle.bundle.specs.Links.{link_rows, no_link}
 use Rattle.bundle.specs.declared.links.Link.{Link}
-use Rattle.bundle.specs.Verdict.{second_pass}
-use Rattle.bundle.specs.Hints.{Hinted}
 use Rattle.bundle.specs.Apart.{Kept}
 use Rattle.bundle.specs.declared.Judgement.TheVariants.{Refused}
-use Rattle.bundle.proofs.Here.{Here, Stands, here_start, stands, over_there, over_nil, over_count}
-use Rattle.bundle.proofs.PassLaws.{second_from, second_start, second_end, other_fault, key_fault, link_fault, record_passes, compared}
+use Rattle.bundle.proofs.Here.{Stands, here_start, stands, over_there, over_nil, over_count}
+use Rattle.bundle.proofs.PassLaws.{second_start, second_end, other_fault, key_fault, link_fault, record_passes, compared}
 use Rattle.bundle.proofs.passes.second_pass.Goals as goal
 use Rattle.bundle.proofs.passes.second_pass.Goals.{then-is_kept, else-is_kept, then-is_kept-2, else-is_kept-2}
 
@@ -54,16 +51,16 @@ loop-j-init c =
     let bundle-of : List ℕ = c.args.bundle.now in
     let lent : Rec = rec c.in-Whole.table (between c.in-Whole.start c.in-Whole.next (bundle-of)) in
     let found : Stands (bundle-of) c.records.at c.records.i c.in-Whole.table c.in-Whole.start c.in-Whole.next = stands _ _ _ c.records.invariant.0 c.step_at-here.ensures c.in-Whole.is in
-    let told : c.if-is_kept.is_kept ≡ true → (least (λ j. clash (lent) (get_or (records_of (bundle-of)) j no_rec)) c.records.i ≡ c.records.i) × Kept (bundle-of) c.if-is_kept.heads c.if-is_kept.lows (c.records.i + 1) = 
-        elim c.if-is_kept.branch [
-          then-is_kept w ↦
-            rw (w.heads-is, w.lows-is)
-            (λ t. w.is_apart-is_kept.ensures (sym w.is_kept-is ∙ t) c.records.i found.below found.at found.place (c.records.invariant.2 w.if-is_kept.true))
-        | else-is_kept w ↦ λ t. never (sym w.is_kept-is ∙ t) w.if-is_kept.false
-        ] in
+    let told : c.if-is_kept.is_kept ≡ true → (least (λ j. clash (lent) (get_or (records_of (bundle-of)) j no_rec)) c.records.i ≡ c.records.i) × Kept (bundle-of) c.if-is_kept.heads c.if-is_kept.lows (c.records.i + 1) =
+    elim c.if-is_kept.branch [
+      | then-is_kept w ↦
+          rw (w.heads-is, w.lows-is)
+          (λ t. w.is_apart-is_kept.ensures (sym w.is_kept-is ∙ t) c.records.i found.below found.at found.place (c.records.invariant.2 w.if-is_kept.true))
+      | else-is_kept w ↦ λ t. never (sym w.is_kept-is ∙ t) w.if-is_kept.false
+    ] in
     elim c.if-is_kept-2.branch [
-      then-is_kept-2 w ↦ rw (w.p-is, w.j-is) (c.records.invariant.0, omega arith, (told w.if-is_kept-2.true).0)
-    | else-is_kept-2 w ↦ rw (w.p-is, w.j-is) (here_start _, omega arith, none_yet _)
+      | then-is_kept-2 w ↦ rw (w.p-is, w.j-is) (c.records.invariant.0, omega arith, (told w.if-is_kept-2.true).0)
+      | else-is_kept-2 w ↦ rw (w.p-is, w.j-is) (here_start _, omega arith, none_yet _)
     ]
 
 pub slice_bounds-clashes-count : goal.slice_bounds-clashes-count
@@ -89,9 +86,6 @@ overflow_add-j c =
     let bundle-of : List ℕ = c.args.bundle.now in
     let found-2 : Stands (bundle-of) c.loop-j.p c.loop-j.j c.in-Whole-there.t c.in-Whole-there.s c.in-Whole-there.e = stands _ _ _ c.loop-j.invariant.0 c.step_at-there.ensures c.in-Whole-there.is in
     omega (arith, found-2.starts, found-2.ends, found-2.inside, c.loop-j.invariant.0.counted)
-
-pub loop-j-smaller : goal.loop-j-smaller
-loop-j-smaller c = omega arith
 
 pub loop-j-preserved : goal.loop-j-preserved
 loop-j-preserved c =
@@ -126,13 +120,13 @@ records-preserved c =
     let apart : earlier_of (records_of (bundle-of)) c.records.i (lent) ≡ c.records.i = let e : c.loop-j.j ≡ c.records.i = omega arith in
     rw e at c.loop-j.invariant.2 in
     let same_transferor : other_transferor (records_of (bundle-of)) (lent) ≡ false = transferor ∙ c.if-not-same_bytes.false-raw in
-    let told : c.if-is_kept.is_kept ≡ true → (least (λ j. clash (lent) (get_or (records_of (bundle-of)) j no_rec)) c.records.i ≡ c.records.i) × Kept (bundle-of) c.if-is_kept.heads c.if-is_kept.lows (c.records.i + 1) = 
-        elim c.if-is_kept.branch [
-          then-is_kept w ↦
-            rw (w.heads-is, w.lows-is)
-            (λ t. w.is_apart-is_kept.ensures (sym w.is_kept-is ∙ t) c.records.i found.below found.at found.place (c.records.invariant.2 w.if-is_kept.true))
-        | else-is_kept w ↦ λ t. never (sym w.is_kept-is ∙ t) w.if-is_kept.false
-        ] in
+    let told : c.if-is_kept.is_kept ≡ true → (least (λ j. clash (lent) (get_or (records_of (bundle-of)) j no_rec)) c.records.i ≡ c.records.i) × Kept (bundle-of) c.if-is_kept.heads c.if-is_kept.lows (c.records.i + 1) =
+    elim c.if-is_kept.branch [
+      | then-is_kept w ↦
+          rw (w.heads-is, w.lows-is)
+          (λ t. w.is_apart-is_kept.ensures (sym w.is_kept-is ∙ t) c.records.i found.below found.at found.place (c.records.invariant.2 w.if-is_kept.true))
+      | else-is_kept w ↦ λ t. never (sym w.is_kept-is ∙ t) w.if-is_kept.false
+    ] in
     let q = record_passes _ c.records.i (lent) found.cons (same_transferor) (omega (arith, apart)) (rw c.missing_link-k.ensures.0 at c.if-k-lt-LINKS.false) in
     (found.then, c.records.invariant.1 ∙ q, (λ t. (told t).1), c.missing_link-k.ensures.1, search rules, search rules, search rules)
 

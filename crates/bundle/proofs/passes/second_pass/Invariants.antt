@@ -1,29 +1,19 @@
 -- `bundle::passes::second_pass` meets its contract. The outer loop stands at record i, the pass finds what it finds from there on, the records
 -- before are kept unless it says so no more, and the hints are places; the inner loop stands at record j, and record i clashes with none before it.
 -- Assumes nothing.
-use Prim.Native.Nat.{ℕ, ◌+◌, ◌-◌, ◌≤◌}
-use mathlib.Core.Path.{◌≡◌, refl, sym, ◌∙◌, ap}
-use mathlib.Core.Bool.{true, false, not}
-use mathlib.Core.Logic.{⊎_elim}
-use mathlib.Core.List.{List}
-use native.Mathlib.Omega.{arith}
+use Prim.Native.Nat.{◌-◌, ◌≤◌}
+use mathlib.Core.Path.{◌≡◌}
+use mathlib.Core.Bool.{true}
 use lib.ListN.{length, get_or}
-use borrow.Author.Rules.{rules}
-use Rattle.common.specs.Checks.{refuse, first_fault}
+use Rattle.common.specs.Checks.{first_fault}
 use Rattle.common.specs.Least.{least}
-use Rattle.common.proofs.Checks.{as_found}
-use Rattle.common.proofs.Tests.{never}
-use Rattle.common.proofs.Least.{start as none_yet, more, hit}
-use Rattle.bundle.specs.Records.{Rec, rec, no_rec, between, records_of}
-use Rattle.bundle.specs.Keys.{clash, other_transferor, earlier_of}
-use Rattle.bundle.specs.Links.{link_rows, no_link}
-use Rattle.bundle.specs.declared.links.Link.{Link}
+use Rattle.bundle.specs.Records.{rec, no_rec, records_of}
+use Rattle.bundle.specs.Keys.{clash}
 use Rattle.bundle.specs.Verdict.{second_pass}
 use Rattle.bundle.specs.Hints.{Hinted}
 use Rattle.bundle.specs.Apart.{Kept}
-use Rattle.bundle.specs.declared.Judgement.TheVariants.{Refused}
-use Rattle.bundle.proofs.Here.{Here, Stands, here_start, stands, over_there, over_nil, over_count}
-use Rattle.bundle.proofs.PassLaws.{second_from, second_start, second_end, other_fault, key_fault, link_fault, record_passes, compared}
+use Rattle.bundle.proofs.Here.{Here}
+use Rattle.bundle.proofs.PassLaws.{second_from}
 use Rattle.bundle.proofs.passes.second_pass.Given as goal
 
 abbrev pub invariant-loop-j : goal.invariant-loop-j

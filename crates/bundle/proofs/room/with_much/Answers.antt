@@ -1,6 +1,5 @@
 -- `bundle::room::with_much` meets its contract.
 -- Assumes nothing.
-use borrow.Author.Rules.{rules}
 use Rattle.bundle.proofs.HintedPlaces.{no_hints_yet}
 use Rattle.bundle.proofs.room.with_much.Goals as goal
 

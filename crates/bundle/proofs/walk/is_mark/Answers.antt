@@ -6,7 +6,6 @@ use native.Mathlib.Nat.{add-zero}
 use native.Mathlib.Omega.{arith}
 use lib.ListN.{length, get_or, drop, length-drop}
 use lib.Seq.{get_or-drop}
-use borrow.Author.Rules.{rules}
 use Rattle.bundle.proofs.Steps.{mark_number, mark_short}
 use Rattle.bundle.proofs.walk.is_mark.Goals as goal
 

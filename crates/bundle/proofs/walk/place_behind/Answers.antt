@@ -1,6 +1,5 @@
 -- `bundle::walk::place_behind` meets its contract.
 -- Assumes nothing.
-use borrow.Author.Rules.{rules}
 use Rattle.bundle.specs.Helpers.{place_behind}
 use Rattle.bundle.proofs.Here.{over_there, over_told, whole_told}
 use Rattle.bundle.proofs.walk.place_behind.Goals as goal

@@ -3,7 +3,6 @@
 use Prim.Native.Nat.{◌+◌, ◌≤◌}
 use native.Mathlib.Omega.{arith}
 use lib.ListN.{length, drop, length-drop}
-use borrow.Author.Rules.{rules}
 use Rattle.bundle.proofs.Steps.{known_long, step_unknown, step_short, step_whole}
 use Rattle.bundle.proofs.walk.step_at.Goals as goal
 

@@ -6,7 +6,6 @@ use mathlib.Core.Bool.{Bool}
 use mathlib.Core.List.{List}
 use native.Mathlib.Omega.{arith}
 use lib.ListN.{take, drop}
-use borrow.Author.Rules.{rules}
 use Rattle.common.specs.Least.{least}
 use Rattle.common.specs.Lists.{same}
 use Rattle.common.proofs.Least.{start, more, hit}

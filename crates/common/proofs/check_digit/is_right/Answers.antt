@@ -1,6 +1,6 @@
 -- `common::check_digit::is_right` meets its contract.
 -- Assumes nothing.
-use Rattle.std.proofs.Common.{◌/◌, ◌%◌, arith, rules}
+use Rattle.std.proofs.Common.{◌/◌, ◌%◌, arith}
 use Rattle.common.specs.CheckDigit.{sum_from, check_digit, is_right, last_digits}
 use Rattle.common.proofs.RightDigits.{six_units, six_small, right_by_units}
 use Rattle.common.proofs.check_digit.is_right.Goals as goal

@@ -1,7 +1,6 @@
 -- `fares::cards::after_alone` meets its contract.
 -- Assumes nothing.
 use native.Mathlib.Omega.{arith}
-use borrow.Author.Rules.{rules}
 use Rattle.fares.proofs.StepLaws.{card_small}
 use Rattle.fares.proofs.cards.after_alone.Goals as goal
 

@@ -17,24 +17,12 @@ returns-then-cards-eq0 c =
     let ars : List (List ℕ) = bodies_at c.args.bundle.now (places_in c.args.cards) in
     none_applies c.args.amount (ars) (ap (λ n. map (body_at c.args.bundle.now) (take n c.args.cards.at)) c.if-cards-eq0.true)
 
-pub after_alone-requires : goal.after_alone-requires
-after_alone-requires c = c.requires.1
-
 pub returns-then-cards-eq1 : goal.returns-then-cards-eq1
 returns-then-cards-eq1 c =
     let long : length c.args.cards.at ≡ 4 = search rules in
     let a = c.args in
     c.after_alone.ensures
     ∙ rw (one_body a.bundle.now a.cards c.if-cards-eq1.true (long)) (sym (one_choice a.amount (body_at a.bundle.now (get_or a.cards.at 0 0))))
-
-pub together-row-requires : goal.together-row-requires
-together-row-requires c = c.requires.0
-
-pub after_alone-requires-then-row-eq0 : goal.after_alone-requires-then-row-eq0
-after_alone-requires-then-row-eq0 c = c.requires.1
-
-pub least_alone-requires : goal.least_alone-requires
-least_alone-requires c = c.requires
 
 pub returns-then-row-eq0 : goal.returns-then-row-eq0
 returns-then-row-eq0 c =
@@ -54,9 +42,6 @@ after_row-requires c =
     let as_many : length (ars) ≡ c.args.cards.count = card_bodies_long c.args.bundle.now c.args.cards c.requires.0 (long) in
     let few : length (ars) ≤ 4 = omega (arith, as_many, c.requires.0) in
     (row_few c.args.amount (ars) c.together-row.ensures (few), row_long c.args.amount (ars) c.together-row.ensures (few), c.requires.1, row_fits c.args.amount (ars) c.together-row.ensures)
-
-pub least_alone-requires-2 : goal.least_alone-requires-2
-least_alone-requires-2 c = c.requires
 
 pub returns : goal.returns
 returns c =

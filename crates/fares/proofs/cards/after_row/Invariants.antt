@@ -1,14 +1,11 @@
 -- `fares::cards::after_row` meets its contract. The loop's invariant: what is left, and the steps that are left.
 -- Assumes nothing.
 use Prim.Native.Nat.{◌+◌, ◌-◌, ◌*◌, ◌≤◌}
-use mathlib.Core.Path.{◌≡◌, refl, sym, ◌∙◌}
+use mathlib.Core.Path.{◌≡◌}
 use mathlib.Core.List.{map}
-use native.Mathlib.Omega.{arith}
-use lib.ListN.{drop, get_or}
+use lib.ListN.{drop}
 use Rattle.fares.specs.Reductions.{reduce_all}
-use Rattle.fares.specs.Helpers.{grant_of, no_step, steps_in}
-use Rattle.fares.proofs.StepLaws.{step_small}
-use Rattle.fares.proofs.LegCards.{factor_at, row_step, row_last}
+use Rattle.fares.specs.Helpers.{grant_of, steps_in}
 use Rattle.fares.proofs.cards.after_row.Given as goal
 
 abbrev pub invariant-loop-k : goal.invariant-loop-k

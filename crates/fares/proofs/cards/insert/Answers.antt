@@ -1,32 +1,13 @@
 -- `fares::cards::insert` meets its contract. The loop's invariant: what stands in front is settled, and one is carried.
 -- Assumes nothing.
-use Prim.Native.Nat.{◌-◌, ◌≤◌}
 use native.Mathlib.Omega.{arith}
 use native.Mathlib.Nat.{le_antisymm}
-use Rattle.fares.proofs.LegCards.{Carried, carried_first, at_hand, carried_swapped, carried_on, carried_last}
+use Rattle.fares.proofs.LegCards.{carried_first, at_hand, carried_swapped, carried_on, carried_last}
 use Rattle.fares.proofs.cards.insert.Goals as goal
 use Rattle.fares.proofs.cards.insert.Goals.{then-carried-there, else-carried-there}
 
 pub loop-k-init : goal.loop-k-init
 loop-k-init c = (omega arith, carried_first _ _ _ c.requires.0 c.requires.1)
-
-pub offset_bounds-row-k : goal.offset_bounds-row-k
-offset_bounds-row-k c = omega (arith, c.requires.0)
-
-pub bounds-row-k : goal.bounds-row-k
-bounds-row-k c = omega (arith, c.requires.0)
-
-pub offset_bounds-row-k-then-carried-there : goal.offset_bounds-row-k-then-carried-there
-offset_bounds-row-k-then-carried-there c = omega (arith, c.requires.0)
-
-pub bounds-row-k-then-carried-there : goal.bounds-row-k-then-carried-there
-bounds-row-k-then-carried-there c = omega (arith, c.requires.0)
-
-pub overflow_add-k : goal.overflow_add-k
-overflow_add-k c = omega (arith, c.requires.0)
-
-pub loop-k-smaller : goal.loop-k-smaller
-loop-k-smaller c = omega arith
 
 pub loop-k-preserved : goal.loop-k-preserved
 loop-k-preserved c =
@@ -34,16 +15,10 @@ loop-k-preserved c =
     let there = at_hand _ _ _ c.requires.0 c.requires.1 i c.loop-k-test.true in (
       omega arith,
       elim c.if-carried-there.branch [
-        then-carried-there w ↦ rw (w.row-is, w.carried-is, there) (carried_swapped _ _ _ c.requires.0 c.requires.1 i c.loop-k-test.true (rw there at w.if-carried-there.true))
-      | else-carried-there w ↦ rw (w.row-is, w.carried-is) (carried_on _ _ _ c.requires.0 c.requires.1 i c.loop-k-test.true (rw there at w.if-carried-there.false))
+        | then-carried-there w ↦ rw (w.row-is, w.carried-is, there) (carried_swapped _ _ _ c.requires.0 c.requires.1 i c.loop-k-test.true (rw there at w.if-carried-there.true))
+        | else-carried-there w ↦ rw (w.row-is, w.carried-is) (carried_on _ _ _ c.requires.0 c.requires.1 i c.loop-k-test.true (rw there at w.if-carried-there.false))
       ],
     )
-
-pub offset_bounds-row-count : goal.offset_bounds-row-count
-offset_bounds-row-count c = omega (arith, c.requires.0)
-
-pub bounds-row-count : goal.bounds-row-count
-bounds-row-count c = omega (arith, c.requires.0)
 
 pub returns : goal.returns
 returns c = carried_last _ _ _ c.requires.0 c.requires.1 c.loop-k.invariant.1 (le_antisymm c.loop-k.invariant.0 c.loop-k-test.false)

@@ -1,10 +1,7 @@
 -- `fares::cards::insert` meets its contract. The loop's invariant: what stands in front is settled, and one is carried.
 -- Assumes nothing.
 use Prim.Native.Nat.{◌-◌, ◌≤◌}
-use mathlib.Core.Logic.{⊎_elim}
-use native.Mathlib.Omega.{arith}
-use native.Mathlib.Nat.{le_antisymm}
-use Rattle.fares.proofs.LegCards.{Carried, carried_first, at_hand, carried_swapped, carried_on, carried_last}
+use Rattle.fares.proofs.LegCards.{Carried}
 use Rattle.fares.proofs.cards.insert.Given as goal
 
 abbrev pub invariant-loop-k : goal.invariant-loop-k

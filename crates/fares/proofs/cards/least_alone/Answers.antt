@@ -1,6 +1,6 @@
 -- `fares::cards::least_alone` meets its contract. The loop's invariant: the least so far, and the records that are left.
 -- Assumes nothing.
-use Prim.Native.Nat.{ℕ, ◌+◌, ◌-◌, ◌≤◌, ◌<◌}
+use Prim.Native.Nat.{ℕ, ◌+◌, ◌<◌}
 use mathlib.Core.Path.{◌≡◌, refl, sym, ◌∙◌}
 use mathlib.Core.Bool.{Bool, cond}
 use mathlib.Core.List.{[]}
@@ -8,7 +8,6 @@ use native.Mathlib.Omega.{arith}
 use lib.ListN.{length, drop, get_or}
 use borrow.Author.Tests.{le-leb, lt-leb}
 use borrow.Author.Rules.{rules}
-use Rattle.common.proofs.Tests.{fails, holds}
 use Rattle.bundle.specs.Helpers.{body_at}
 use Rattle.fares.specs.Reductions.{card_grants, reduce_by}
 use Rattle.fares.specs.Cards.{is_together, lesser, least_from}
@@ -28,16 +27,10 @@ offset_bounds-at-k c =
 pub bounds-at-k : goal.bounds-at-k
 bounds-at-k c = omega (arith, c.requires.0, c.loop-k-test.true)
 
-pub after_alone-left-requires : goal.after_alone-left-requires
-after_alone-left-requires c = c.requires.1
-
 pub overflow_add-k : goal.overflow_add-k
 overflow_add-k c =
     let few : c.loop-k.k < 4 = omega (arith, c.requires.0, c.loop-k-test.true) in
     omega (arith, few)
-
-pub loop-k-smaller : goal.loop-k-smaller
-loop-k-smaller c = omega arith
 
 pub loop-k-preserved : goal.loop-k-preserved
 loop-k-preserved c =
@@ -49,21 +42,20 @@ loop-k-preserved c =
     let here = card_body_at a.bundle.now a.cards c.requires.0 long c.loop-k.k c.loop-k-test.true in
     let n : c.loop-k.k < length ars = omega (arith, c.loop-k-test.true, card_bodies_long a.bundle.now a.cards c.requires.0 long) in
     let step : (t : Bool) → c.is_cumulative.result ≡ t
-            → least_from (cond t c.loop-k.least (lesser c.loop-k.least left)) (alone_from a.amount (drop (c.loop-k.k + 1) ars)) ≡ least_from a.first (alone_from a.amount ars) =
-        λ t e.
-        let f : is_together (get_or ars c.loop-k.k []) ≡ t = rw (here, ← c.body_at-ar.ensures) (sym c.is_cumulative.ensures ∙ e) in
-        rw (← here) (sym (alone_step a.amount ars c.loop-k.k n c.loop-k.least f) ∙ c.loop-k.invariant.1)
-    in
-    (
+    → least_from (cond t c.loop-k.least (lesser c.loop-k.least left)) (alone_from a.amount (drop (c.loop-k.k + 1) ars)) ≡ least_from a.first (alone_from a.amount ars) =
+    λ t e.
+    let f : is_together (get_or ars c.loop-k.k []) ≡ t = rw (here, ← c.body_at-ar.ensures) (sym c.is_cumulative.ensures ∙ e) in
+    rw (← here) (sym (alone_step a.amount ars c.loop-k.k n c.loop-k.least f) ∙ c.loop-k.invariant.1)
+    in (
       omega arith,
       elim c.if-not-is_cumulative.branch [
-        then-not-is_cumulative+then-left-least w ↦
-          let e : w.after_alone-left.result ≡ lesser c.loop-k.least left = rw (← w.after_alone-left.ensures, lt-leb _ _ w.if-left-least.true) in
-          rw (w.least-is ∙ e) (step _ w.if-not-is_cumulative.true)
-      | then-not-is_cumulative+else-left-least w ↦
-          let e : c.loop-k.least ≡ lesser c.loop-k.least left = rw (← w.after_alone-left.ensures, le-leb _ _ w.if-left-least.false) in
-          rw (w.least-is ∙ e) (step _ w.if-not-is_cumulative.true)
-      | else-not-is_cumulative w ↦ rw w.least-is (step _ w.if-not-is_cumulative.false)
+        | then-not-is_cumulative+then-left-least w ↦
+            let e : w.after_alone-left.result ≡ lesser c.loop-k.least left = rw (← w.after_alone-left.ensures, lt-leb _ _ w.if-left-least.true) in
+            rw (w.least-is ∙ e) (step _ w.if-not-is_cumulative.true)
+        | then-not-is_cumulative+else-left-least w ↦
+            let e : c.loop-k.least ≡ lesser c.loop-k.least left = rw (← w.after_alone-left.ensures, le-leb _ _ w.if-left-least.false) in
+            rw (w.least-is ∙ e) (step _ w.if-not-is_cumulative.true)
+        | else-not-is_cumulative w ↦ rw w.least-is (step _ w.if-not-is_cumulative.false)
       ],
     )
 

@@ -2,7 +2,6 @@
 -- Assumes nothing.
 use Prim.Native.Nat.{◌+◌, ◌*◌, ◌≤◌}
 use native.Mathlib.Omega.{arith}
-use borrow.Author.Rules.{rules}
 use Rattle.fares.proofs.StepLaws.{rating_small, code_small}
 use Rattle.fares.proofs.cards.step_of.Goals as goal
 

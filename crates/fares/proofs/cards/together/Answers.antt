@@ -1,6 +1,6 @@
 -- `fares::cards::together` meets its contract. The loop's invariant: the records met so far in their row, and those that are left.
 -- Assumes nothing.
-use Prim.Native.Nat.{◌-◌, ◌≤◌, ◌<◌}
+use Prim.Native.Nat.{◌<◌}
 use mathlib.Core.Path.{◌≡◌, sym, ◌∙◌, ap}
 use mathlib.Core.List.{[]}
 use native.Mathlib.Omega.{arith}
@@ -9,7 +9,7 @@ use borrow.Author.Rules.{rules}
 use Rattle.layout.specs.Layout.{AR}
 use Rattle.layout.specs.Fields.{is_yes}
 use Rattle.fares.specs.Helpers.{places_in, bodies_at, padded, no_step, row_by}
-use Rattle.fares.proofs.LegCards.{padded_length, Built, built_first, built_more, built_same, built_last, card_bodies_long, card_body_at}
+use Rattle.fares.proofs.LegCards.{padded_length, built_first, built_more, built_same, built_last, card_bodies_long, card_body_at}
 use Rattle.fares.proofs.cards.together.Goals as goal
 use Rattle.fares.proofs.cards.together.Goals.{then-is_cumulative, else-is_cumulative}
 
@@ -42,9 +42,6 @@ overflow_add-k c =
     let few : c.loop-k.k < 4 = omega (arith, c.requires, c.loop-k-test.true) in
     omega (arith, few)
 
-pub loop-k-smaller : goal.loop-k-smaller
-loop-k-smaller c = omega arith
-
 pub loop-k-preserved : goal.loop-k-preserved
 loop-k-preserved c =
     let long : length c.args.cards.at ≡ 4 = search rules in
@@ -56,9 +53,9 @@ loop-k-preserved c =
     let e = ap (is_yes AR 6) (sym (body)) in (
       omega arith,
       elim c.if-is_cumulative.branch [
-        then-is_cumulative w ↦
-          rw (w.steps-is, w.count-is) (built_more _ b inside (e ∙ (sym c.is_cumulative.ensures ∙ w.if-is_cumulative.true)) few (rw (← body, ← w.step_of.ensures) w.insert-longer.ensures))
-      | else-is_cumulative w ↦ rw (w.steps-is, w.count-is) (built_same _ b inside (e ∙ (sym c.is_cumulative.ensures ∙ w.if-is_cumulative.false)))
+        | then-is_cumulative w ↦
+            rw (w.steps-is, w.count-is) (built_more _ b inside (e ∙ (sym c.is_cumulative.ensures ∙ w.if-is_cumulative.true)) few (rw (← body, ← w.step_of.ensures) w.insert-longer.ensures))
+        | else-is_cumulative w ↦ rw (w.steps-is, w.count-is) (built_same _ b inside (e ∙ (sym c.is_cumulative.ensures ∙ w.if-is_cumulative.false)))
       ],
     )
 

@@ -7,7 +7,6 @@ use borrow.Author.Tests.{le-leb, lt-leb, eq-eqb, ne_eqb}
 use Rattle.layout.specs.Layout.{CO}
 use Rattle.layout.specs.Fields.{number_in}
 use Rattle.fares.specs.Legs.{persons_fit}
-use borrow.Author.Rules.{rules}
 use Rattle.fares.proofs.legs.persons_fit.Goals as goal
 
 pub returns-then-persons-least_persons : goal.returns-then-persons-least_persons

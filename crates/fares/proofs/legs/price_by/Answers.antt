@@ -15,7 +15,6 @@ use Rattle.fares.specs.Helpers.{places_in, bodies_at, answer_by}
 use Rattle.fares.specs.declared.legs.Priced.TheVariants.{Part, Refused}
 use Rattle.fares.proofs.StepLaws.{conditions_small, step_small}
 use Rattle.fares.proofs.LegLaws.{by_small}
-use borrow.Author.Rules.{rules}
 use Rattle.fares.proofs.legs.price_by.Goals as goal
 
 pub returns-then-not-persons_fit : goal.returns-then-not-persons_fit

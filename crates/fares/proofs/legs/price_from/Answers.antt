@@ -15,7 +15,6 @@ use Rattle.fares.specs.declared.legs.Priced.TheVariants.{Refused}
 use Rattle.fares.specs.declared.records.Cards.{Cards}
 use Rattle.fares.specs.declared.records.LegRecords.{LegRecords}
 use Rattle.fares.proofs.LegLaws.{applied_four, no_conditions, off_day, by_places}
-use borrow.Author.Rules.{rules}
 use Rattle.fares.proofs.legs.price_from.Goals as goal
 
 pub price_by-requires : goal.price_by-requires

@@ -1,6 +1,6 @@
 -- `fares::limits::card_count` meets its contract. The loop's invariant: what is counted, and the cards in the slots that are left.
 -- Assumes nothing.
-use Prim.Native.Nat.{suc, ◌≤◌, ◌-◌, ◌+◌}
+use Prim.Native.Nat.{suc, ◌+◌}
 use mathlib.Core.Path.{◌≡◌, ◌∙◌}
 use mathlib.Core.Bool.{cond}
 use native.Mathlib.Nat.{zero-add}
@@ -17,20 +17,8 @@ use Rattle.fares.proofs.limits.card_count.Goals.{then-cards-k-ne0, else-cards-k-
 pub loop-k-init : goal.loop-k-init
 loop-k-init c = (omega arith, omega arith, zero-add _)
 
-pub offset_bounds-cards-k : goal.offset_bounds-cards-k
-offset_bounds-cards-k c = omega arith
-
-pub bounds-cards-k : goal.bounds-cards-k
-bounds-cards-k c = omega arith
-
 pub overflow_add-count : goal.overflow_add-count
 overflow_add-count c = omega (arith, c.loop-k.invariant.1)
-
-pub overflow_add-k : goal.overflow_add-k
-overflow_add-k c = omega arith
-
-pub loop-k-smaller : goal.loop-k-smaller
-loop-k-smaller c = omega arith
 
 pub loop-k-preserved : goal.loop-k-preserved
 loop-k-preserved c =
@@ -39,8 +27,8 @@ loop-k-preserved c =
     count_step (first_of 0 4 cards) c.loop-k.k (rw first_length t) ∙ rw (first_at 0 4 cards c.loop-k.k t) in
     let i = c.loop-k.invariant in
     elim c.if-cards-k-ne0.branch [
-      then-cards-k-ne0 w ↦ (omega arith, omega (arith, w.count-is), omega (arith, w.count-is, i.2, rw (ne_eqb _ _ w.if-cards-k-ne0.true) at head))
-    | else-cards-k-ne0 w ↦ (omega arith, omega (arith, w.count-is), omega (arith, w.count-is, i.2, rw (eq-eqb _ _ w.if-cards-k-ne0.false) at head))
+      | then-cards-k-ne0 w ↦ (omega arith, omega (arith, w.count-is), omega (arith, w.count-is, i.2, rw (ne_eqb _ _ w.if-cards-k-ne0.true) at head))
+      | else-cards-k-ne0 w ↦ (omega arith, omega (arith, w.count-is), omega (arith, w.count-is, i.2, rw (eq-eqb _ _ w.if-cards-k-ne0.false) at head))
     ]
 
 pub returns : goal.returns

@@ -1,13 +1,12 @@
 -- `fares::limits::cards_differ` meets its contract. The loop's invariant: the slots that are left decide.
 -- Assumes nothing.
-use Prim.Native.Nat.{◌≤◌, ◌-◌, ◌+◌}
+use Prim.Native.Nat.{◌+◌}
 use mathlib.Core.Path.{◌≡◌, refl, sym, ◌∙◌}
 use mathlib.Core.Bool.{not, ◌&&◌}
 use native.Mathlib.Omega.{arith}
 use lib.Dec.{eqb}
 use lib.ListN.{drop, get_or}
 use borrow.Author.Tests.{eq-eqb, ne_eqb}
-use borrow.Author.Rules.{rules}
 use Rattle.common.specs.Lists.{any, first_of}
 use Rattle.common.proofs.Lists.{first_length, first_at}
 use Rattle.fares.specs.Question.{is_given, cards_differ}
@@ -24,18 +23,6 @@ returns-then-one_at_most c =
 pub loop-k-init : goal.loop-k-init
 loop-k-init c = (omega arith, refl)
 
-pub offset_bounds-cards-k : goal.offset_bounds-cards-k
-offset_bounds-cards-k c = omega arith
-
-pub bounds-cards-k : goal.bounds-cards-k
-bounds-cards-k c = omega arith
-
-pub overflow_add-k : goal.overflow_add-k
-overflow_add-k c = omega arith
-
-pub stands_from-requires : goal.stands_from-requires
-stands_from-requires c = omega arith
-
 pub returns-then-stands_from : goal.returns-then-stands_from
 returns-then-stands_from c =
     let head : let cards = c.args.cards in let card = get_or cards c.loop-k.k 0 in let rest = drop (c.loop-k.k + 1) (first_of 0 4 cards) in cards_differ (first_of 0 4 cards) ≡ (not (is_given card && any (eqb card) rest) && cards_differ rest) = let cards = c.args.cards in
@@ -43,21 +30,17 @@ returns-then-stands_from c =
     c.loop-k.invariant.1 ∙ (differ_step (first_of 0 4 cards) c.loop-k.k (rw first_length t) ∙ rw (first_at 0 4 cards c.loop-k.k t)) in
     sym (head ∙ rw (ne_eqb _ 0 c.if-card-ne0.true, ← c.stands_from.ensures, c.if-stands_from.true))
 
-pub overflow_add-k-in-loop-k : goal.overflow_add-k-in-loop-k
-overflow_add-k-in-loop-k c = omega arith
-
-pub loop-k-smaller : goal.loop-k-smaller
-loop-k-smaller c = omega arith
-
 pub loop-k-preserved : goal.loop-k-preserved
 loop-k-preserved c =
     let head : let cards = c.args.cards in let card = get_or cards c.loop-k.k 0 in let rest = drop (c.loop-k.k + 1) (first_of 0 4 cards) in cards_differ (first_of 0 4 cards) ≡ (not (is_given card && any (eqb card) rest) && cards_differ rest) = let cards = c.args.cards in
     let t = c.loop-k-test.true in
-    c.loop-k.invariant.1 ∙ (differ_step (first_of 0 4 cards) c.loop-k.k (rw first_length t) ∙ rw (first_at 0 4 cards c.loop-k.k t)) in
-    (omega arith, head ∙ elim c.if-card-ne0.branch [
-      then-card-ne0+else-stands_from w ↦ rw (ne_eqb _ 0 w.if-card-ne0.true, ← w.stands_from.ensures, w.if-stands_from.false)
-    | else-card-ne0 w ↦ rw (eq-eqb _ 0 w.if-card-ne0.false)
-    ])
+    c.loop-k.invariant.1 ∙ (differ_step (first_of 0 4 cards) c.loop-k.k (rw first_length t) ∙ rw (first_at 0 4 cards c.loop-k.k t)) in (
+      omega arith,
+      head ∙ elim c.if-card-ne0.branch [
+        | then-card-ne0+else-stands_from w ↦ rw (ne_eqb _ 0 w.if-card-ne0.true, ← w.stands_from.ensures, w.if-stands_from.false)
+        | else-card-ne0 w ↦ rw (eq-eqb _ 0 w.if-card-ne0.false)
+      ],
+    )
 
 pub returns : goal.returns
 unfolding cards_differ

@@ -1,13 +1,12 @@
 -- `fares::limits::cards_in_limits` meets its contract. The loop's invariant: the slots that are left decide.
 -- Assumes nothing.
-use Prim.Native.Nat.{◌≤◌, ◌-◌, ◌+◌}
+use Prim.Native.Nat.{◌+◌}
 use mathlib.Core.Path.{◌≡◌, refl, sym, ◌∙◌}
 use mathlib.Core.Bool.{cond, ◌&&◌}
 use native.Mathlib.Omega.{arith}
 use lib.Dec.{eqb, leb}
 use lib.ListN.{drop, get_or}
 use borrow.Author.Tests.{eq-eqb, ne_eqb, le-leb, lt-leb}
-use borrow.Author.Rules.{rules}
 use Rattle.common.specs.Lists.{every, first_of}
 use Rattle.common.proofs.Lists.{first_length, first_at}
 use Rattle.fares.specs.Question.{is_given, cards_in_limits}
@@ -22,18 +21,6 @@ returns-then-one_at_most c =
 
 pub loop-k-init : goal.loop-k-init
 loop-k-init c = (omega arith, refl)
-
-pub offset_bounds-cards-k : goal.offset_bounds-cards-k
-offset_bounds-cards-k c = omega arith
-
-pub bounds-cards-k : goal.bounds-cards-k
-bounds-cards-k c = omega arith
-
-pub overflow_add-k : goal.overflow_add-k
-overflow_add-k c = omega arith
-
-pub none_from-requires : goal.none_from-requires
-none_from-requires c = omega arith
 
 pub returns-then-card-eq0 : goal.returns-then-card-eq0
 returns-then-card-eq0 c =
@@ -50,12 +37,6 @@ returns-then-card-gt999 c =
     let t = c.loop-k-test.true in
     c.loop-k.invariant.1 ∙ (limits_step (first_of 0 4 cards) c.loop-k.k (rw first_length t) ∙ rw (first_at 0 4 cards c.loop-k.k t)) in
     sym (head ∙ rw (lt-leb _ 999 c.if-card-gt999.true))
-
-pub overflow_add-k-in-loop-k : goal.overflow_add-k-in-loop-k
-overflow_add-k-in-loop-k c = omega arith
-
-pub loop-k-smaller : goal.loop-k-smaller
-loop-k-smaller c = omega arith
 
 pub loop-k-preserved : goal.loop-k-preserved
 loop-k-preserved c =

@@ -2,7 +2,6 @@
 -- Assumes nothing.
 use mathlib.Core.Path.{◌≡◌, sym, ◌∙◌}
 use mathlib.Core.Bool.{true}
-use borrow.Author.Rules.{rules}
 use Rattle.common.proofs.Tests.{fails, holds}
 use Rattle.fares.specs.Question.{card_slots, cards_in_limits}
 use Rattle.fares.specs.Helpers.{trip_in_limits}

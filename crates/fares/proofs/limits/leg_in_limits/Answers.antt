@@ -1,7 +1,6 @@
 -- `fares::limits::leg_in_limits` meets its contract.
 -- Assumes nothing.
 use Rattle.common.proofs.Tests.{fails, holds}
-use borrow.Author.Rules.{rules}
 use Rattle.fares.proofs.limits.leg_in_limits.Goals as goal
 
 pub returns-then-not-is_railway : goal.returns-then-not-is_railway

@@ -1,14 +1,9 @@
 -- `fares::limits::legs_in_limits` meets its contract. The loop's invariant: the legs that are left decide.
 -- Assumes nothing.
-use Prim.Native.Nat.{◌≤◌, ◌-◌, ◌+◌}
-use mathlib.Core.Bool.{◌&&◌}
-use mathlib.Core.Path.{◌≡◌, refl, sym, ◌∙◌}
-use native.Mathlib.Omega.{arith}
-use lib.ListN.{drop, get_or}
-use borrow.Author.Rules.{rules}
+use Prim.Native.Nat.{◌≤◌, ◌-◌}
+use mathlib.Core.Path.{◌≡◌}
+use lib.ListN.{drop}
 use Rattle.common.specs.Lists.{every, first_of}
-use Rattle.common.proofs.Lists.{every_step, every_end, first_length, first_at}
-use Rattle.common.proofs.Tests.{fails, holds}
 use Rattle.fares.specs.Question.{leg_in_limits, no_leg}
 use Rattle.fares.proofs.limits.legs_in_limits.Given as goal
 

@@ -1,6 +1,6 @@
 -- `fares::limits::none_from` meets its contract. The loop's invariant: the slots that are left decide.
 -- Assumes nothing.
-use Prim.Native.Nat.{◌≤◌, ◌-◌, ◌+◌}
+use Prim.Native.Nat.{◌+◌}
 use mathlib.Core.Path.{◌≡◌, refl, sym, ◌∙◌}
 use mathlib.Core.Bool.{◌&&◌}
 use native.Mathlib.Omega.{arith}
@@ -14,24 +14,12 @@ use Rattle.fares.proofs.limits.none_from.Goals as goal
 pub loop-k-init : goal.loop-k-init
 loop-k-init c = (c.requires, refl)
 
-pub offset_bounds-cards-k : goal.offset_bounds-cards-k
-offset_bounds-cards-k c = omega arith
-
-pub bounds-cards-k : goal.bounds-cards-k
-bounds-cards-k c = omega arith
-
 pub returns-then-cards-k-ne0 : goal.returns-then-cards-k-ne0
 returns-then-cards-k-ne0 c =
     let head : let cards = c.args.cards in every (eqb 0) (drop c.args.first (first_of 0 4 cards)) ≡ (eqb 0 (get_or cards c.loop-k.k 0) && every (eqb 0) (drop (c.loop-k.k + 1) (first_of 0 4 cards))) = let cards = c.args.cards in
     let t = c.loop-k-test.true in
     c.loop-k.invariant.1 ∙ (every_step (eqb 0) (first_of 0 4 cards) c.loop-k.k 0 (rw first_length t) ∙ rw (first_at 0 4 cards c.loop-k.k t)) in
     sym (head ∙ rw (ne_eqb 0 _ (λ e. c.if-cards-k-ne0.true (sym e))))
-
-pub overflow_add-k : goal.overflow_add-k
-overflow_add-k c = omega arith
-
-pub loop-k-smaller : goal.loop-k-smaller
-loop-k-smaller c = omega arith
 
 pub loop-k-preserved : goal.loop-k-preserved
 loop-k-preserved c =

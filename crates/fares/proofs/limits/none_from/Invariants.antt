@@ -1,14 +1,10 @@
 -- `fares::limits::none_from` meets its contract. The loop's invariant: the slots that are left decide.
 -- Assumes nothing.
-use Prim.Native.Nat.{◌≤◌, ◌-◌, ◌+◌}
-use mathlib.Core.Path.{◌≡◌, refl, sym, ◌∙◌}
-use mathlib.Core.Bool.{◌&&◌}
-use native.Mathlib.Omega.{arith}
+use Prim.Native.Nat.{◌≤◌, ◌-◌}
+use mathlib.Core.Path.{◌≡◌}
 use lib.Dec.{eqb}
-use lib.ListN.{drop, get_or}
-use borrow.Author.Tests.{eq-eqb, ne_eqb}
+use lib.ListN.{drop}
 use Rattle.common.specs.Lists.{every, first_of}
-use Rattle.common.proofs.Lists.{every_step, every_end, first_length, first_at}
 use Rattle.fares.proofs.limits.none_from.Given as goal
 
 abbrev pub invariant-loop-k : goal.invariant-loop-k

@@ -5,7 +5,6 @@ use mathlib.Core.Path.{sym, ◌∙◌}
 use native.Mathlib.Omega.{arith}
 use lib.ListN.{length, get_or, drop}
 use borrow.Author.Tests.{le-leb}
-use borrow.Author.Rules.{rules}
 use Rattle.common.specs.Lists.{only, first_of}
 use Rattle.common.proofs.Only.{only_few}
 use Rattle.common.proofs.Lists.{first_length}

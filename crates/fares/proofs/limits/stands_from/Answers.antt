@@ -1,6 +1,6 @@
 -- `fares::limits::stands_from` meets its contract. The loop's invariant: the slots that are left decide.
 -- Assumes nothing.
-use Prim.Native.Nat.{◌≤◌, ◌-◌, ◌+◌}
+use Prim.Native.Nat.{◌+◌}
 use mathlib.Core.Path.{◌≡◌, refl, sym, ◌∙◌}
 use mathlib.Core.Bool.{◌||◌}
 use native.Mathlib.Omega.{arith}
@@ -16,14 +16,6 @@ pub loop-k-init : goal.loop-k-init
 unfolding any
 loop-k-init c = (c.requires, refl)
 
-pub offset_bounds-cards-k : goal.offset_bounds-cards-k
-unfolding any
-offset_bounds-cards-k c = omega arith
-
-pub bounds-cards-k : goal.bounds-cards-k
-unfolding any
-bounds-cards-k c = omega arith
-
 pub returns-then-cards-k : goal.returns-then-cards-k
 unfolding any
 returns-then-cards-k c =
@@ -31,14 +23,6 @@ returns-then-cards-k c =
     let t = c.loop-k-test.true in
     c.loop-k.invariant.1 ∙ (stands_step (first_of 0 4 a.cards) c.loop-k.k (rw first_length t) a.card ∙ rw (first_at 0 4 a.cards c.loop-k.k t)) in
     sym (head ∙ rw (eq-eqb _ _ (sym c.if-cards-k.true)))
-
-pub overflow_add-k : goal.overflow_add-k
-unfolding any
-overflow_add-k c = omega arith
-
-pub loop-k-smaller : goal.loop-k-smaller
-unfolding any
-loop-k-smaller c = omega arith
 
 pub loop-k-preserved : goal.loop-k-preserved
 unfolding any

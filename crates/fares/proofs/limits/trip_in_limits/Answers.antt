@@ -2,7 +2,6 @@
 -- Assumes nothing.
 use mathlib.Core.Path.{◌≡◌}
 use mathlib.Core.Bool.{true}
-use borrow.Author.Rules.{rules}
 use Rattle.common.proofs.Tests.{fails, holds}
 use Rattle.layout.specs.Dates.{is_day}
 use Rattle.fares.specs.Question.{between}

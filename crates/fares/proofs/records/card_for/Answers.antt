@@ -1,7 +1,6 @@
 -- `fares::records::card_for` meets its contract.
 -- Assumes nothing.
 use borrow.Author.Tests.{eq-eqb, ne_eqb}
-use borrow.Author.Rules.{rules}
 use Rattle.fares.proofs.records.card_for.Goals as goal
 
 pub returns-then-card-eq0 : goal.returns-then-card-eq0

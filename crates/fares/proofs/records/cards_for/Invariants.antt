@@ -1,12 +1,7 @@
 -- `fares::records::cards_for` meets its contract. The loop's invariant: the places found so far, and the slots that are left.
 -- Assumes nothing.
-use Prim.Native.Nat.{◌-◌, ◌≤◌, ◌<◌}
-use mathlib.Core.Path.{sym, ◌∙◌}
-use mathlib.Core.Logic.{⊎_elim}
-use native.Mathlib.Omega.{arith}
-use borrow.Author.Rules.{rules}
-use Rattle.choice.proofs.WalkLaws.{not_at}
-use Rattle.fares.proofs.LegLaws.{Looked, looked_first, looked_found, looked_none, looked_last}
+use Prim.Native.Nat.{◌-◌, ◌≤◌}
+use Rattle.fares.proofs.LegLaws.{Looked}
 use Rattle.fares.proofs.records.cards_for.Given as goal
 
 abbrev pub invariant-loop-k : goal.invariant-loop-k

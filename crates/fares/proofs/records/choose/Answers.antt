@@ -2,7 +2,6 @@
 -- Assumes nothing.
 use mathlib.Core.Path.{◌≡◌, sym, ◌∙◌, ap}
 use mathlib.Core.List.{map}
-use borrow.Author.Rules.{rules}
 use Rattle.common.proofs.Tests.{fails, holds}
 use Rattle.bundle.specs.Records.{records_of}
 use Rattle.choice.specs.Choice.{choice_of}

@@ -4,7 +4,6 @@ use native.Mathlib.Nat.{mul-le-mul}
 use native.Mathlib.Omega.{arith}
 use Prim.Native.Nat.{◌≤◌}
 use Rattle.fares.specs.Reductions.{reduce_by}
-use borrow.Author.Rules.{rules}
 use Rattle.fares.proofs.reductions.reduce.Goals as goal
 
 pub overflow_mul-amount : goal.overflow_mul-amount

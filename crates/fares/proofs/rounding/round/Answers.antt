@@ -2,7 +2,6 @@
 -- Assumes nothing.
 use borrow.Author.Tests.{ne_eqb}
 use Rattle.fares.specs.Rounding.{rounded}
-use borrow.Author.Rules.{rules}
 use Rattle.fares.proofs.rounding.round.Goals as goal
 
 pub returns-in-43 : goal.returns-in-43

@@ -5,7 +5,6 @@ use native.Mathlib.Nat.{mul-zero}
 use native.Mathlib.Omega.{arith}
 use Rattle.fares.specs.Rounding.{upwards}
 use Rattle.fares.proofs.Fit.{quotient_fits}
-use borrow.Author.Rules.{rules}
 use Rattle.fares.proofs.rounding.round_up.Goals as goal
 
 pub returns-then-factor-eq0 : goal.returns-then-factor-eq0

@@ -1,7 +1,6 @@
 -- `layout::company::company_of` meets its contract.
 -- Assumes nothing.
 use Rattle.layout.specs.Company.{company_of}
-use borrow.Author.Rules.{rules}
 use Rattle.layout.proofs.company.company_of.Goals as goal
 
 pub returns : goal.returns

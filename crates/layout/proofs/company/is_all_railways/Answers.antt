@@ -1,7 +1,6 @@
 -- `layout::company::is_all_railways` meets its contract.
 -- Assumes nothing.
 use Rattle.layout.specs.Company.{is_all_railways}
-use borrow.Author.Rules.{rules}
 use Rattle.layout.proofs.company.is_all_railways.Goals as goal
 
 pub returns : goal.returns

@@ -2,7 +2,6 @@
 -- Assumes nothing.
 use native.Mathlib.Omega.{arith}
 use lib.Seq.{take_all}
-use borrow.Author.Rules.{rules}
 use Rattle.layout.specs.Company.{is_company}
 use Rattle.layout.proofs.company.is_company.Goals as goal
 

@@ -1,7 +1,6 @@
 -- `layout::company::is_transferor` meets its contract.
 -- Assumes nothing.
 use Rattle.layout.specs.Company.{is_transferor}
-use borrow.Author.Rules.{rules}
 use Rattle.layout.proofs.company.is_transferor.Goals as goal
 
 pub returns-then-is_all_railways : goal.returns-then-is_all_railways

@@ -2,7 +2,6 @@
 -- Assumes nothing.
 use borrow.Author.Tests.{le-leb, lt-leb}
 use Rattle.layout.specs.Dates.{is_day}
-use borrow.Author.Rules.{rules}
 use Rattle.layout.proofs.dates.is_day.Goals as goal
 
 pub returns-then-year-lt1583 : goal.returns-then-year-lt1583

@@ -2,7 +2,6 @@
 -- Assumes nothing.
 use mathlib.Core.Bool.{and-false}
 use borrow.Author.Tests.{ne_eqb, le-leb, lt-leb}
-use borrow.Author.Rules.{rules}
 use Rattle.layout.specs.MonthRule.{length_by_rule}
 use Rattle.layout.proofs.MonthRule.{table_is_rule}
 use Rattle.layout.proofs.dates.month_length.Goals as goal

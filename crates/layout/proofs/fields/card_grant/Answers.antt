@@ -1,6 +1,5 @@
 -- `layout::fields::card_grant` meets its contract: antt computes where the rows stand.
 -- Assumes nothing.
-use borrow.Author.Rules.{rules}
 use Rattle.layout.specs.Layout.{table_at, tables}
 use Rattle.layout.specs.Fields.{row_with, row_of, bytes_of, byte_of, number_in, grant_in}
 use Rattle.layout.proofs.fields.card_grant.Goals as goal

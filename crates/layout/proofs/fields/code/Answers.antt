@@ -1,7 +1,6 @@
 -- `layout::fields::code` meets its contract: the code stands where its span says.
 -- Assumes nothing.
 use mathlib.Core.Path.{◌∙◌}
-use borrow.Author.Rules.{rules}
 use Rattle.layout.proofs.Tables.{code_spanned}
 use Rattle.layout.proofs.fields.code.Goals as goal
 

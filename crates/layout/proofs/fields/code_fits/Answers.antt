@@ -2,7 +2,6 @@
 -- Assumes nothing.
 use mathlib.Core.Path.{sym, ◌∙◌, ap}
 use lib.Dec.{eqb}
-use borrow.Author.Rules.{rules}
 use Rattle.layout.proofs.Tables.{no_span_lem, a_span}
 use Rattle.layout.proofs.fields.code_fits.Goals as goal
 

@@ -3,7 +3,6 @@
 use mathlib.Core.Path.{◌∙◌}
 use native.Mathlib.Omega.{arith}
 use lib.Seq.{take_all}
-use borrow.Author.Rules.{rules}
 use Rattle.layout.proofs.fields.day_at.Goals as goal
 
 pub returns-then-s-ne8 : goal.returns-then-s-ne8

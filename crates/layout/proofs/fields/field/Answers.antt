@@ -1,6 +1,5 @@
 -- `layout::fields::field` meets its contract.
 -- Assumes nothing.
-use borrow.Author.Rules.{rules}
 use Rattle.layout.proofs.fields.field.Goals as goal
 
 pub returns : goal.returns

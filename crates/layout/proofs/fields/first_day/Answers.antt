@@ -1,6 +1,5 @@
 -- `layout::fields::first_day` meets its contract: the period stands at the end of the record.
 -- Assumes nothing.
-use borrow.Author.Rules.{rules}
 use Rattle.common.specs.Digits.{digits_after, number_of}
 use Rattle.layout.specs.Layout.{FIRST_DAY}
 use Rattle.layout.specs.Fields.{first_day}

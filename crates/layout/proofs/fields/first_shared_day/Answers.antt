@@ -1,6 +1,5 @@
 -- `layout::fields::first_shared_day` meets its contract.
 -- Assumes nothing.
-use borrow.Author.Rules.{rules}
 use borrow.Author.Tests.{le-leb, lt-leb}
 use Rattle.layout.specs.Fields.{first_shared}
 use Rattle.layout.proofs.fields.first_shared_day.Goals as goal

@@ -1,6 +1,5 @@
 -- `layout::fields::holds_day` meets its contract: every table has a period.
 -- Assumes nothing.
-use borrow.Author.Rules.{rules}
 use borrow.Author.Tests.{le-leb, lt-leb}
 use Rattle.common.specs.Lists.{any}
 use Rattle.layout.specs.Fields.{has_period, holds_day}

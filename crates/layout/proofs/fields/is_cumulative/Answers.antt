@@ -1,6 +1,5 @@
 -- `layout::fields::is_cumulative` meets its contract: antt computes where the row stands.
 -- Assumes nothing.
-use borrow.Author.Rules.{rules}
 use Rattle.layout.specs.Layout.{table_at, tables}
 use Rattle.layout.specs.Fields.{row_with, row_of, byte_of, is_yes}
 use Rattle.layout.proofs.fields.is_cumulative.Goals as goal

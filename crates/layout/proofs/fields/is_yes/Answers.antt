@@ -3,7 +3,6 @@
 use Prim.Native.Nat.{◌+◌, ◌-◌}
 use mathlib.Core.Path.{◌≡◌}
 use native.Mathlib.Omega.{arith}
-use borrow.Author.Rules.{rules}
 use Rattle.layout.specs.Layout.{table_at, tables}
 use Rattle.layout.specs.Fields.{row_with, row_of, byte_of, is_yes}
 use Rattle.layout.proofs.Flags.{flags_stand, no_flag_before, no_flag_behind}

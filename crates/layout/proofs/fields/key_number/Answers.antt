@@ -1,6 +1,5 @@
 -- `layout::fields::key_number` meets its contract.
 -- Assumes nothing.
-use borrow.Author.Rules.{rules}
 use Rattle.layout.specs.Helpers.{key_number}
 use Rattle.layout.proofs.fields.key_number.Goals as goal
 

@@ -1,6 +1,5 @@
 -- `layout::fields::last_day` meets its contract: the period stands at the end of the record.
 -- Assumes nothing.
-use borrow.Author.Rules.{rules}
 use Rattle.common.specs.Digits.{digits_after, number_of}
 use Rattle.layout.specs.Layout.{LAST_DAY}
 use Rattle.layout.specs.Fields.{last_day}

@@ -1,6 +1,5 @@
 -- `layout::fields::number_at` meets its contract.
 -- Assumes nothing.
-use borrow.Author.Rules.{rules}
 use Rattle.layout.proofs.fields.number_at.Goals as goal
 
 pub returns : goal.returns

@@ -1,6 +1,5 @@
 -- `layout::fields::same_key` meets its contract: the fields of a key are compared at once.
 -- Assumes nothing.
-use borrow.Author.Rules.{rules}
 use mathlib.Core.Path.{◌∙◌}
 use Rattle.layout.proofs.Tables.{key_at_once}
 use Rattle.layout.proofs.fields.same_key.Goals as goal

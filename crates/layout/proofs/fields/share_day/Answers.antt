@@ -1,7 +1,6 @@
 -- `layout::fields::share_day` meets its contract.
 -- Assumes nothing.
 use mathlib.Core.Path.{sym}
-use borrow.Author.Rules.{rules}
 use Rattle.layout.specs.Fields.{share_day}
 use Rattle.layout.proofs.Periods.{first_over, second_over}
 use Rattle.layout.proofs.fields.share_day.Goals as goal

@@ -1,6 +1,5 @@
 -- `layout::fields::transferor` meets its contract: antt computes where the row stands.
 -- Assumes nothing.
-use borrow.Author.Rules.{rules}
 use Rattle.layout.specs.Layout.{table_at, tables}
 use Rattle.layout.specs.Fields.{row_with, row_of, bytes_of, transferor_of}
 use Rattle.layout.proofs.fields.transferor.Goals as goal

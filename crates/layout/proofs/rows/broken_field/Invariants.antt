@@ -1,16 +1,11 @@
 -- `layout::rows::broken_field` meets its contract. The loop's invariant: what is left of the rows decides.
 -- Assumes nothing.
-use Prim.Native.Nat.{◌+◌, ◌≤◌, ◌-◌}
-use mathlib.Core.Path.{◌≡◌, refl, sym, ◌∙◌}
-use mathlib.Core.Bool.{cond}
+use Prim.Native.Nat.{◌≤◌, ◌-◌}
+use mathlib.Core.Path.{◌≡◌}
 use mathlib.Core.List.{map}
-use native.Mathlib.Omega.{arith}
 use lib.ListN.{length, drop}
-use borrow.Author.Rules.{rules}
-use borrow.Author.Tests.{not-true, not-false}
 use Rattle.layout.specs.Rules.{first_broken}
 use Rattle.layout.specs.Helpers.{as_row, obeys_row}
-use Rattle.layout.proofs.RowLoops.{broken_step, broken_end}
 use Rattle.layout.proofs.rows.broken_field.Given as goal
 
 abbrev pub invariant-loop-k : goal.invariant-loop-k

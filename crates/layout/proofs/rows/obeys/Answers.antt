@@ -3,7 +3,6 @@
 use Rattle.layout.specs.Rules.{kept_beside, ruled}
 use Rattle.layout.specs.Helpers.{obeys_row}
 use borrow.Author.Tests.{ne_eqb}
-use borrow.Author.Rules.{rules}
 use Rattle.layout.proofs.rows.obeys.Goals as goal
 
 pub returns-in-0 : goal.returns-in-0

@@ -1,18 +1,13 @@
 -- `layout::rows::of_field` meets its contract. The loop's invariant: what is left of the rows decides.
 -- Assumes nothing.
 use Prim.Native.Nat.{◌≤◌, ◌-◌}
-use mathlib.Core.Path.{◌≡◌, refl, sym, ◌∙◌}
-use mathlib.Core.Bool.{true, false}
+use mathlib.Core.Path.{◌≡◌}
 use mathlib.Core.List.{map}
-use native.Mathlib.Omega.{arith}
 use lib.Dec.{eqb}
 use lib.ListN.{length, drop}
-use borrow.Author.Rules.{rules}
-use borrow.Author.Tests.{eq-eqb, ne_eqb}
 use Rattle.layout.specs.Fields.{row_with}
 use Rattle.layout.specs.Helpers.{as_row}
 use Rattle.layout.specs.declared.rows.Row.{Row}
-use Rattle.layout.proofs.RowLoops.{with_step, with_end}
 use Rattle.layout.proofs.rows.of_field.Given as goal
 
 abbrev pub invariant-loop-k : goal.invariant-loop-k

@@ -1,12 +1,8 @@
 -- `layout::rules::blank` meets its contract. The loop's invariant: what is left decides.
 -- Assumes nothing.
-use Prim.Native.Nat.{◌≤◌, ◌-◌}
-use mathlib.Core.Path.{◌≡◌, refl, sym, ◌∙◌}
+use mathlib.Core.Path.{refl, sym, ◌∙◌}
 use native.Mathlib.Omega.{arith}
-use lib.ListN.{length, drop}
-use borrow.Author.Rules.{rules}
 use borrow.Author.Tests.{eq-eqb, ne_eqb}
-use Rattle.common.specs.Lists.{every}
 use Rattle.common.proofs.Lists.{every_step, every_end}
 use Rattle.layout.specs.Bytes.{is_blank}
 use Rattle.layout.proofs.rules.blank.Goals as goal

@@ -2,7 +2,6 @@
 -- Assumes nothing.
 use borrow.Author.Tests.{eq-eqb, ne_eqb}
 use Rattle.layout.specs.Rules.{factor_rule}
-use borrow.Author.Rules.{rules}
 use Rattle.layout.proofs.rules.factor.Goals as goal
 
 pub returns-then-mode-eq78 : goal.returns-then-mode-eq78

@@ -1,7 +1,6 @@
 -- `layout::rules::first_day` meets its contract.
 -- Assumes nothing.
 use Rattle.layout.specs.Rules.{first_day_rule}
-use borrow.Author.Rules.{rules}
 use Rattle.layout.proofs.rules.first_day.Goals as goal
 
 pub returns : goal.returns

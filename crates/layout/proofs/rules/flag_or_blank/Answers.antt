@@ -1,7 +1,6 @@
 -- `layout::rules::flag_or_blank` meets its contract.
 -- Assumes nothing.
 use borrow.Author.Tests.{eq-eqb, ne_eqb}
-use borrow.Author.Rules.{rules}
 use Rattle.layout.proofs.rules.flag_or_blank.Goals as goal
 
 pub returns-then-b-eq32 : goal.returns-then-b-eq32

@@ -1,6 +1,5 @@
 -- `layout::rules::last_day` meets its contract.
 -- Assumes nothing.
-use borrow.Author.Rules.{rules}
 use Rattle.common.proofs.Tests.{fails, holds}
 use Rattle.layout.specs.Rules.{first_day_rule, last_day_rule}
 use Rattle.layout.proofs.rules.last_day.Goals as goal

@@ -2,7 +2,6 @@
 -- Assumes nothing.
 use Rattle.layout.specs.Rules.{most_persons}
 use borrow.Author.Tests.{eq-eqb, ne_eqb, not-true, not-false}
-use borrow.Author.Rules.{rules}
 use Rattle.layout.proofs.rules.most_persons.Goals as goal
 
 pub returns-then-blank : goal.returns-then-blank

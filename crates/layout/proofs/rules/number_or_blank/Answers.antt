@@ -1,7 +1,6 @@
 -- `layout::rules::number_or_blank` meets its contract.
 -- Assumes nothing.
 use Rattle.layout.specs.Rules.{number_or_blank}
-use borrow.Author.Rules.{rules}
 use Rattle.layout.proofs.rules.number_or_blank.Goals as goal
 
 pub returns-then-blank : goal.returns-then-blank

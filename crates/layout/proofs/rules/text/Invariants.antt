@@ -1,13 +1,10 @@
 -- `layout::rules::text` meets its contract. The loop's invariant: what was good so far, and what is left, decide.
 -- Assumes nothing.
 use Prim.Native.Nat.{◌≤◌, ◌-◌}
-use mathlib.Core.Bool.{◌&&◌, and_assoc, and-true}
-use mathlib.Core.Path.{◌≡◌, refl, sym, ◌∙◌}
-use native.Mathlib.Omega.{arith}
+use mathlib.Core.Bool.{◌&&◌}
+use mathlib.Core.Path.{◌≡◌}
 use lib.ListN.{length, drop}
-use borrow.Author.Rules.{rules}
 use Rattle.common.specs.Lists.{every}
-use Rattle.common.proofs.Lists.{every_step, every_end}
 use Rattle.layout.specs.Bytes.{is_text}
 use Rattle.layout.proofs.rules.text.Given as goal
 

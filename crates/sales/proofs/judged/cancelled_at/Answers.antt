@@ -1,7 +1,6 @@
 -- `sales::judged::cancelled_at` meets its contract.
 -- Assumes nothing.
 use mathlib.Core.Path.{sym, ◌∙◌, ap}
-use borrow.Author.Rules.{rules}
 use borrow.Author.Tests.{eq-eqb, ne_eqb}
 use Rattle.sales.specs.Sales.{receipt}
 use Rattle.sales.specs.declared.Outcome.TheVariants.{Cancelled, AlreadyCancelled}

@@ -1,7 +1,6 @@
 -- `sales::judged::judge_cancel` meets its contract.
 -- Assumes nothing.
 use mathlib.Core.Path.{◌≡◌, sym, ◌∙◌, ap}
-use borrow.Author.Rules.{rules}
 use Rattle.sales.specs.Sales.{cancel_receipt}
 use Rattle.sales.specs.Helpers.{looked_up}
 use Rattle.sales.specs.declared.reading.Looked.TheVariants.{At}

@@ -1,7 +1,6 @@
 -- `sales::judged::refused` meets its contract.
 -- Assumes nothing.
 use mathlib.Core.Path.{◌∙◌, ap}
-use borrow.Author.Rules.{rules}
 use Rattle.sales.specs.Sales.{no_receipt}
 use Rattle.sales.proofs.judged.refused.Goals as goal
 

@@ -1,7 +1,6 @@
 -- `sales::judged::sold_again` meets its contract.
 -- Assumes nothing.
 use mathlib.Core.Path.{sym, ◌∙◌, ap₂}
-use borrow.Author.Rules.{rules}
 use Rattle.common.proofs.Tests.{fails, holds}
 use Rattle.book.specs.Words.{entry_at}
 use Rattle.sales.specs.Sales.{receipt}

@@ -3,7 +3,6 @@
 use mathlib.Core.Path.{sym, ◌∙◌, ap}
 use Rattle.sales.specs.declared.Outcome.TheVariants.{Booked}
 use Rattle.sales.proofs.AnswersByCase.{quote_refused, quote_priced}
-use borrow.Author.Rules.{rules}
 use Rattle.sales.proofs.judged.sold_first.Goals as goal
 
 pub returns-in-Refused : goal.returns-in-Refused

@@ -1,6 +1,5 @@
 -- `sales::reading::booking_at` meets its contract.
 -- Assumes nothing.
-use borrow.Author.Rules.{rules}
 use Rattle.sales.proofs.reading.booking_at.Goals as goal
 
 pub returns : goal.returns

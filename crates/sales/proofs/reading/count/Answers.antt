@@ -6,7 +6,6 @@ use Rattle.common.proofs.Tests.{fails, holds}
 use Rattle.book.proofs.SoundBook.{entries_length}
 use Rattle.sales.specs.Reading.{count_answer}
 use Rattle.sales.specs.declared.Tally.TheVariants.{Entries, Refused}
-use borrow.Author.Rules.{rules}
 use Rattle.sales.proofs.reading.count.Goals as goal
 
 pub returns-then-not-is_sound : goal.returns-then-not-is_sound

@@ -1,7 +1,6 @@
 -- `sales::reading::find` meets its contract.
 -- Assumes nothing.
 use mathlib.Core.Path.{◌≡◌, sym, ◌∙◌, ap₂}
-use borrow.Author.Rules.{rules}
 use Rattle.sales.specs.Reading.{booking_at}
 use Rattle.sales.specs.Helpers.{looked_up}
 use Rattle.sales.specs.declared.reading.Looked.TheVariants.{At}

@@ -3,7 +3,6 @@
 use mathlib.Core.Path.{◌≡◌, sym, ◌∙◌, ap}
 use mathlib.Core.Bool.{true}
 use native.Mathlib.Omega.{arith}
-use borrow.Author.Rules.{rules}
 use Rattle.common.proofs.Checks.{as_found}
 use Rattle.common.proofs.Tests.{fails, holds}
 use Rattle.book.specs.Sound.{number_in_limits, sound_words}

@@ -1,7 +1,6 @@
 -- `sales::reading::refused` meets its contract.
 -- Assumes nothing.
 use mathlib.Core.Path.{◌∙◌, ap}
-use borrow.Author.Rules.{rules}
 use Rattle.sales.specs.Reading.{no_booking}
 use Rattle.sales.proofs.reading.refused.Goals as goal
 
