@@ -5,32 +5,35 @@ use layout::rows::Row;
 use layout::{fields, rules};
 use names::field_names::say_mark;
 use names::field_rules::first_bad;
-use names::words::{say, say_length, say_number, say_quoted, sum};
+use names::words::{say, say_length, say_quoted, sum};
+use std::alloc::AllocError;
 
 // What may be wrong where a record should start and no mark stands.
-pub fn tell_mark_mistakes(bundle: &[u8], at: usize) {
+pub fn tell_mark_mistakes(out: &mut String, bundle: &[u8], at: usize) -> Result<(), AllocError> {
     let table = table_in_capitals(bundle, at);
     if table < layout::TABLES {
-        say(b"Marks are capital letters: this would be the mark ");
-        say_mark(table);
-        say(b".\n");
-        return;
+        say(out, "Marks are capital letters: this would be the mark ")?;
+        say_mark(out, table)?;
+        return say(out, ".\n");
     }
-    tell_odd_byte(bundle, at);
-    tell_mark_nearby(bundle, at);
+    tell_odd_byte(out, bundle, at)?;
+    tell_mark_nearby(out, bundle, at)
 }
 
 // What may be wrong in a record of which a field breaks its rule.
-pub fn tell_field_mistakes(bundle: &[u8], at: usize, row: Row) {
+pub fn tell_field_mistakes(
+    out: &mut String,
+    bundle: &[u8],
+    at: usize,
+    row: Row,
+) -> Result<(), AllocError> {
     let body = body_at(bundle, at);
     if row.kind == rules::TEXT {
-        tell_characters(fields::field(body, row.start, row.length));
+        tell_characters(out, fields::field(body, row.start, row.length))?;
     }
-    tell_two_byte_letter(
-        common::part(body, 0, common::less(sum(row.start, row.length), 1)),
-        sum(at, 2),
-    );
-    tell_shift(bundle, sum(sum(at, 2), body.len()));
+    let upto = common::less(sum(row.start, row.length), 1);
+    tell_two_byte_letter(out, common::part(body, 0, upto), sum(at, 2))?;
+    tell_shift(out, bundle, sum(sum(at, 2), body.len()))
 }
 
 // The table whose mark stands at a place if small letters count as capital ones.
@@ -50,18 +53,19 @@ fn capital(letter: u8) -> u8 {
 }
 
 // A line end, or the byte that many files start with which were saved as UTF-8.
-fn tell_odd_byte(bundle: &[u8], at: usize) {
+fn tell_odd_byte(out: &mut String, bundle: &[u8], at: usize) -> Result<(), AllocError> {
     let odd = common::byte_at(bundle, sum(at, 1));
     if is_line_end(odd) {
-        say(b"This is a line end. Between records, and behind the last one, stands nothing.\n");
+        say(out, "This is a line end. ")?;
+        say(out, "Between records, and behind the last one, stands nothing.\n")?;
     }
     if at == 0 {
         if odd == 239 {
-            say(
-                b"Many files that were saved as UTF-8 start with this byte. A bundle is ISO 8859-1.\n",
-            );
+            say(out, "Many files that were saved as UTF-8 start with this byte. ")?;
+            say(out, "A bundle is ISO 8859-1.\n")?;
         }
     }
+    Ok(())
 }
 
 fn is_line_end(b: u8) -> bool {
@@ -75,31 +79,28 @@ fn is_line_end(b: u8) -> bool {
 // How far from its place a mark is looked for: less than the shortest record, so that it is not the mark of the record before.
 const REACH: usize = 48;
 
-fn tell_mark_nearby(bundle: &[u8], due: usize) {
+fn tell_mark_nearby(out: &mut String, bundle: &[u8], due: usize) -> Result<(), AllocError> {
     let found = nearest_start(bundle, due);
     if found == due {
-        return;
+        return Ok(());
     }
-    say(b"A mark, ");
-    say_mark(table_at(bundle, found));
-    say(b", stands ");
+    say(out, "A mark, ")?;
+    say_mark(out, table_at(bundle, found))?;
+    say(out, ", stands ")?;
     if due < found {
-        say_length(common::less(found, due));
-        say(b" further on, at byte ");
-        say_number(found);
-        say(b": what is before it is too long by as much.\n");
+        say_length(out, common::less(found, due))?;
+        write!(out, " further on, at byte {found}: ")?;
+        say(out, "what is before it is too long by as much.\n")
     } else {
-        say_length(common::less(due, found));
-        say(b" earlier, at byte ");
-        say_number(found);
-        say(b": what is before it is too short by as much.\n");
+        say_length(out, common::less(due, found))?;
+        write!(out, " earlier, at byte {found}: ")?;
+        say(out, "what is before it is too short by as much.\n")
     }
 }
 
 // The place nearest to the one where a record should start at which one seems to, or that place itself if there is none.
 fn nearest_start(bundle: &[u8], due: usize) -> usize {
-    let mut distance = 1;
-    while distance <= REACH {
+    for distance in 1..=REACH {
         let further = sum(due, distance);
         if seems_start(bundle, further) {
             return further;
@@ -108,7 +109,6 @@ fn nearest_start(bundle: &[u8], due: usize) -> usize {
         if seems_start(bundle, earlier) {
             return earlier;
         }
-        distance += 1;
     }
     due
 }
@@ -126,65 +126,64 @@ fn seems_start(bundle: &[u8], at: usize) -> bool {
 }
 
 // Whether the record has bytes too many or too few shows by where the next one starts.
-fn tell_shift(bundle: &[u8], due: usize) {
+fn tell_shift(out: &mut String, bundle: &[u8], due: usize) -> Result<(), AllocError> {
     if bundle.len() <= due {
-        return;
+        return Ok(());
     }
     if seems_start(bundle, due) {
-        return;
+        return Ok(());
     }
     if nearest_start(bundle, due) == due {
-        return;
+        return Ok(());
     }
-    say(b"The next record should start at byte ");
-    say_number(due);
-    say(b". ");
-    tell_mark_nearby(bundle, due);
+    write!(out, "The next record should start at byte {due}. ")?;
+    tell_mark_nearby(out, bundle, due)
 }
 
 // What the first byte is that a text may not have.
-fn tell_characters(text: &[u8]) {
+fn tell_characters(out: &mut String, text: &[u8]) -> Result<(), AllocError> {
     let bad = common::byte_at(text, sum(first_bad(text), 1));
-    say(b"A bundle is ISO 8859-1, which has one byte for each character. Byte ");
-    say_number(bad as usize);
+    say(out, "A bundle is ISO 8859-1, which has one byte for each character. ")?;
+    write!(out, "Byte {bad}")?;
     match bad {
-        9 => say(b" is a tab, which no text may have.\n"),
-        10 => say(b" is a line end, which no text may have.\n"),
-        13 => say(b" is a line end, which no text may have.\n"),
-        128..=159 => tell_foreign_byte(),
-        _ => say(b" is no character.\n"),
+        9 => say(out, " is a tab, which no text may have.\n"),
+        10 => say(out, " is a line end, which no text may have.\n"),
+        13 => say(out, " is a line end, which no text may have.\n"),
+        128..=159 => tell_foreign_byte(out),
+        _ => say(out, " is no character.\n"),
     }
 }
 
-fn tell_foreign_byte() {
-    say(b" is none of them: UTF-8 has such bytes within characters of several bytes, ");
-    say(b"Windows-1252 has dashes, curved quotes and the like there.\n");
+fn tell_foreign_byte(out: &mut String) -> Result<(), AllocError> {
+    say(out, " is none of them: ")?;
+    say(out, "UTF-8 has such bytes within characters of several bytes, ")?;
+    say(out, "Windows-1252 has dashes, curved quotes and the like there.\n")
 }
 
 // The first two bytes that look like one letter in UTF-8, in the start of a record whose body starts at a place of the bundle.
-fn tell_two_byte_letter(start_of_body: &[u8], place: usize) {
+fn tell_two_byte_letter(
+    out: &mut String,
+    start_of_body: &[u8],
+    place: usize,
+) -> Result<(), AllocError> {
     let i = first_two_byte_letter(start_of_body);
     if start_of_body.len() <= i {
-        return;
+        return Ok(());
     }
-    say(b"The bytes ");
-    say_quoted(common::part(start_of_body, i, 2));
-    say(b" at byte ");
-    say_number(sum(place, i));
-    say(
-        b" look like UTF-8, where a letter with an accent takes two bytes and shifts what follows. Save the file as ISO 8859-1.\n",
-    );
+    say(out, "The bytes ")?;
+    say_quoted(out, common::part(start_of_body, i, 2))?;
+    let at = sum(place, i);
+    write!(out, " at byte {at} look like UTF-8, where a letter with an accent takes two bytes ")?;
+    say(out, "and shifts what follows. Save the file as ISO 8859-1.\n")
 }
 
 fn first_two_byte_letter(s: &[u8]) -> usize {
-    let mut i = 0;
-    while i < s.len() {
+    for i in 0..s.len() {
         if is_two_byte_letter(common::part(s, i, 2)) {
             return i;
         }
-        i += 1;
     }
-    i
+    s.len()
 }
 
 fn is_two_byte_letter(two: &[u8]) -> bool {

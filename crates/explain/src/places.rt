@@ -16,10 +16,8 @@ fn next_place(bundle: &[u8], at: usize) -> usize {
 // The byte, from 0, at which a record starts.
 pub fn place_of(bundle: &[u8], record: usize) -> usize {
     let mut at = 0;
-    let mut i = 0;
-    while i < record {
+    for _ in 0..record {
         at = next_place(bundle, at);
-        i += 1;
     }
     at
 }
@@ -28,13 +26,11 @@ pub fn place_of(bundle: &[u8], record: usize) -> usize {
 pub fn count_of(bundle: &[u8], records: usize, table: u32) -> usize {
     let mut count = 0;
     let mut at = 0;
-    let mut i = 0;
-    while i < records {
+    for _i in 0..records {
         if table_at(bundle, at) == table {
             count += 1;
         }
         at = next_place(bundle, at);
-        i += 1;
     }
     count
 }

@@ -5,6 +5,7 @@ ghost use Rattle.std.specs.Prelude.{◌≡◌};
 ghost use Rattle.verdict.specs.Program.{program_verdict};
 
 use offers::Judgement;
+use std::io;
 
 // The most bytes that this program takes.
 const LIMIT: usize = 65536;
@@ -18,30 +19,21 @@ fn judge(input: &[u8]) -> Judgement
     offers::verdict(input)
 }
 
-fn write_number(n: u64) {
-    io::write_all(1, b" ");
-    io::print_decimal(1, n);
-}
-
-fn write_line(verdict: Judgement) {
+fn write_line(rt: &impl Print, verdict: Judgement) -> io::Result<()> {
     match verdict {
-        Judgement::Accepted(records) => {
-            io::write_all(1, b"OK");
-            write_number(records as u64);
-        }
+        Judgement::Accepted(records) => println!(rt; "OK {records}"),
         Judgement::Refused(why) => {
-            io::write_all(1, b"NO");
-            write_number(why.number as u64);
-            write_number(why.place as u64);
-            write_number(why.detail as u64);
+            let number = why.number;
+            let place = why.place;
+            let detail = why.detail;
+            println!(rt; "NO {number} {place} {detail}")
         }
     }
-    io::write_all(1, b"\n");
 }
 
 // The buffer has room for a byte more than the limit, so that longer input shows. A read that fails ends the input.
-fn main() {
-    let mut buffer = [0u8; 65537];
-    let n = io::read_full(0, &mut buffer);
-    write_line(judge(&buffer[..n]));
+fn main(rt: HostRuntime) -> io::Result<()> {
+    let mut buffer = vec![in rt.alloc(); 0u8; LIMIT + 1]?;
+    let n = input::read_full(&mut rt.stdin(), &mut buffer);
+    write_line(&rt, judge(&buffer[..n]))
 }
