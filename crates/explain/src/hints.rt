@@ -57,11 +57,17 @@ fn tell_odd_byte(out: &mut String, bundle: &[u8], at: usize) -> Result<(), Alloc
     let odd = common::byte_at(bundle, sum(at, 1));
     if is_line_end(odd) {
         say(out, "This is a line end. ")?;
-        say(out, "Between records, and behind the last one, stands nothing.\n")?;
+        say(
+            out,
+            "Between records, and behind the last one, stands nothing.\n",
+        )?;
     }
     if at == 0 {
         if odd == 239 {
-            say(out, "Many files that were saved as UTF-8 start with this byte. ")?;
+            say(
+                out,
+                "Many files that were saved as UTF-8 start with this byte. ",
+            )?;
             say(out, "A bundle is ISO 8859-1.\n")?;
         }
     }
@@ -143,7 +149,10 @@ fn tell_shift(out: &mut String, bundle: &[u8], due: usize) -> Result<(), AllocEr
 // What the first byte is that a text may not have.
 fn tell_characters(out: &mut String, text: &[u8]) -> Result<(), AllocError> {
     let bad = common::byte_at(text, sum(first_bad(text), 1));
-    say(out, "A bundle is ISO 8859-1, which has one byte for each character. ")?;
+    say(
+        out,
+        "A bundle is ISO 8859-1, which has one byte for each character. ",
+    )?;
     write!(out, "Byte {bad}")?;
     match bad {
         9 => say(out, " is a tab, which no text may have.\n"),
@@ -156,8 +165,14 @@ fn tell_characters(out: &mut String, text: &[u8]) -> Result<(), AllocError> {
 
 fn tell_foreign_byte(out: &mut String) -> Result<(), AllocError> {
     say(out, " is none of them: ")?;
-    say(out, "UTF-8 has such bytes within characters of several bytes, ")?;
-    say(out, "Windows-1252 has dashes, curved quotes and the like there.\n")
+    say(
+        out,
+        "UTF-8 has such bytes within characters of several bytes, ",
+    )?;
+    say(
+        out,
+        "Windows-1252 has dashes, curved quotes and the like there.\n",
+    )
 }
 
 // The first two bytes that look like one letter in UTF-8, in the start of a record whose body starts at a place of the bundle.
@@ -173,8 +188,14 @@ fn tell_two_byte_letter(
     say(out, "The bytes ")?;
     say_quoted(out, common::part(start_of_body, i, 2))?;
     let at = sum(place, i);
-    write!(out, " at byte {at} look like UTF-8, where a letter with an accent takes two bytes ")?;
-    say(out, "and shifts what follows. Save the file as ISO 8859-1.\n")
+    write!(
+        out,
+        " at byte {at} look like UTF-8, where a letter with an accent takes two bytes "
+    )?;
+    say(
+        out,
+        "and shifts what follows. Save the file as ISO 8859-1.\n",
+    )
 }
 
 fn first_two_byte_letter(s: &[u8]) -> usize {

@@ -1,8 +1,8 @@
 // Reads a bundle from standard input and tells the verdict on it in words, for the railway that delivered it.
 #![tactic(auto)]
 
-use names::{field_names, words};
 use offers::Judgement;
+use names::{field_names, words};
 use std::alloc::AllocError;
 use std::io;
 
@@ -40,7 +40,10 @@ fn tell_accepted(out: &mut String, bundle: &[u8], records: usize) -> Result<(), 
     if records == 0 {
         return words::say(out, "The bundle is empty: it has no record.\n");
     }
-    words::say(out, "The bundle is accepted: every record keeps the rules. ")?;
+    words::say(
+        out,
+        "The bundle is accepted: every record keeps the rules. ",
+    )?;
     words::say(out, "Its records by table:\n")?;
     tell_count(out, bundle, records, layout::CO)?;
     tell_count(out, bundle, records, layout::RE)?;

@@ -26,7 +26,7 @@ pub fn place_of(bundle: &[u8], record: usize) -> usize {
 pub fn count_of(bundle: &[u8], records: usize, table: u32) -> usize {
     let mut count = 0;
     let mut at = 0;
-    for _i in 0..records {
+    for _passed in 0..records {
         if table_at(bundle, at) == table {
             count += 1;
         }

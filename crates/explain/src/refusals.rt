@@ -24,14 +24,23 @@ pub fn tell(out: &mut String, bundle: &[u8], why: Refusal) -> Result<(), AllocEr
         7 => tell_missing_link(out, bundle, record, detail)?,
         _ => say(out, "There are no words for this number here.\n")?,
     }
-    say(out, "Only this first fault is told. Once it is mended there may be another.\n")
+    say(
+        out,
+        "Only this first fault is told. Once it is mended there may be another.\n",
+    )
 }
 
 fn tell_too_long(out: &mut String) -> Result<(), AllocError> {
-    say(out, "The bundle is too long: it has more than 1048576 bytes. ")?;
+    say(
+        out,
+        "The bundle is too long: it has more than 1048576 bytes. ",
+    )?;
     say(out, "No record was looked at.\n")?;
     say(out, "Deliver fewer offers in one bundle. ")?;
-    say(out, "Keep the records of an offer together, as they need each other.\n")
+    say(
+        out,
+        "Keep the records of an offer together, as they need each other.\n",
+    )
 }
 
 // What names a record within its table: offer and railway, or code, or all three.
@@ -75,14 +84,20 @@ fn tell_record(
         say_key(out, table, body)?;
     }
     say(out, ".\n")?;
-    write!(out, "It starts with its mark at byte {at} of the bundle, counted from 0.\n")
+    write!(
+        out,
+        "It starts with its mark at byte {at} of the bundle, counted from 0.\n"
+    )
 }
 
 fn tell_no_mark(out: &mut String, bundle: &[u8], record: usize) -> Result<(), AllocError> {
     let at = place_of(bundle, record);
     let found = common::part(bundle, at, 2);
     say(out, "No record starts where one should.\n")?;
-    write!(out, "Record {record}, counted from 0, should start at byte {at} of the bundle, ")?;
+    write!(
+        out,
+        "Record {record}, counted from 0, should start at byte {at} of the bundle, "
+    )?;
     say(out, "counted from 0.\n")?;
     say(out, "A record starts with its mark, CO, RE, AR or ME. ")?;
     if found.len() < 2 {
@@ -100,7 +115,10 @@ fn tell_record_before(out: &mut String, bundle: &[u8], record: usize) -> Result<
     if record == 0 {
         return Ok(());
     }
-    say(out, "Look for a line end or another byte behind the record before it, ")?;
+    say(
+        out,
+        "Look for a line end or another byte behind the record before it, ",
+    )?;
     say(out, "or whether that has the wrong length.\n")?;
     let before = record - 1;
     tell_record(out, bundle, before, place_of(bundle, before))
@@ -113,9 +131,15 @@ fn tell_cut_short(out: &mut String, bundle: &[u8], record: usize) -> Result<(), 
     let lacking = common::less(length, left);
     say(out, "The bundle ends inside a record.\n")?;
     tell_record(out, bundle, record, at)?;
-    write!(out, "Behind the mark it needs {length} bytes; the bundle has {left} left, ")?;
+    write!(
+        out,
+        "Behind the mark it needs {length} bytes; the bundle has {left} left, "
+    )?;
     write!(out, "which is {lacking} too few.\n")?;
-    say(out, "The usual causes: the delivery was cut off, or this record lost bytes. ")?;
+    say(
+        out,
+        "The usual causes: the delivery was cut off, or this record lost bytes. ",
+    )?;
     say(out, "Send it again.\n")
 }
 
@@ -188,27 +212,37 @@ fn tell_repeated_key(
     let body = body_at(bundle, at);
     let other = body_at(bundle, before);
     let shared = fields::first_shared_day(table, body, other);
-    say(out, "The record has the key of an earlier record, and the two periods overlap.\n")?;
+    say(
+        out,
+        "The record has the key of an earlier record, and the two periods overlap.\n",
+    )?;
     tell_record(out, bundle, record, at)?;
-    write!(out, "Record {earlier}, at byte {before} of the bundle, has the same key: ")?;
+    write!(
+        out,
+        "Record {earlier}, at byte {before} of the bundle, has the same key: "
+    )?;
     say_key(out, table, other)?;
     say(out, ".\n")?;
     tell_period(out, table, record, body)?;
     tell_period(out, table, earlier, other)?;
     write!(out, "The first day that is in both periods is {shared}.\n")?;
-    say(out, "Records of one key may stand together only if no day is in two of their periods.\n")?;
-    say(out, "Keep one of the two, or correct the first or the last day of one.\n")
+    say(
+        out,
+        "Records of one key may stand together only if no day is in two of their periods.\n",
+    )?;
+    say(
+        out,
+        "Keep one of the two, or correct the first or the last day of one.\n",
+    )
 }
 
-fn tell_period(
-    out: &mut String,
-    table: u32,
-    record: usize,
-    body: &[u8],
-) -> Result<(), AllocError> {
+fn tell_period(out: &mut String, table: u32, record: usize, body: &[u8]) -> Result<(), AllocError> {
     let first = fields::first_day(table, body);
     let last = fields::last_day(table, body);
-    write!(out, "Record {record} is valid from {first} to {last}, both days included.\n")
+    write!(
+        out,
+        "Record {record} is valid from {first} to {last}, both days included.\n"
+    )
 }
 
 fn tell_missing_link(
@@ -220,7 +254,10 @@ fn tell_missing_link(
     let at = place_of(bundle, record);
     let table = table_at(bundle, at);
     let body = body_at(bundle, at);
-    say(out, "The record needs another record that is not in the bundle.\n")?;
+    say(
+        out,
+        "The record needs another record that is not in the bundle.\n",
+    )?;
     tell_record(out, bundle, record, at)?;
     match detail {
         1 => tell_code_wanted(out, body)?,
@@ -237,25 +274,26 @@ fn tell_missing_link(
 }
 
 fn tell_code_wanted(out: &mut String, body: &[u8]) -> Result<(), AllocError> {
-    say(out, "An AR record needs the RE record of its code, so an RE record of code ")?;
+    say(
+        out,
+        "An AR record needs the RE record of its code, so an RE record of code ",
+    )?;
     say_bytes(out, fields::code(layout::AR, body))
 }
 
 fn tell_conditions_wanted(out: &mut String, table: u32, body: &[u8]) -> Result<(), AllocError> {
     say(out, "An ")?;
     say_mark(out, table)?;
-    say(out, " record needs a CO record of its offer, so a CO record of offer ")?;
+    say(
+        out,
+        " record needs a CO record of its offer, so a CO record of offer ",
+    )?;
     say_bytes(out, fields::offer(body))?;
     say(out, " for any railway")
 }
 
 // A CO record's flag that is Y wants a record of its offer, for its railway or for all of them.
-fn tell_flag_wants(
-    out: &mut String,
-    flag: u32,
-    wants: u32,
-    body: &[u8],
-) -> Result<(), AllocError> {
+fn tell_flag_wants(out: &mut String, flag: u32, wants: u32, body: &[u8]) -> Result<(), AllocError> {
     let railway = fields::railway(body);
     write!(out, "Flag {flag}, ")?;
     say_field(out, layout::CO, flag)?;

@@ -3,6 +3,14 @@
 #![tactic(auto)]
 
 use offers::{Leg, Outcome, Question, Receipt, Refusal, Sum};
+use std::alloc::AllocError;
+use std::io;
+
+// The most bytes of the bundle that are read.
+const LIMIT: usize = 4096;
+
+// How many words a book has.
+const WORDS: usize = 16385;
 
 // One ticket over two railways.
 fn ticket(persons: u32, cards: [u32; 4]) -> Question {
@@ -28,78 +36,74 @@ fn ticket(persons: u32, cards: [u32; 4]) -> Question {
     }
 }
 
-fn say(text: &[u8]) {
-    io::write_all(1, text);
+fn write_refusal(out: &mut String, why: Refusal) -> Result<(), AllocError> {
+    let number = why.number;
+    let place = why.place;
+    let detail = why.detail;
+    write!(out, "NO {number} {place} {detail}")
 }
 
-fn write_number(n: u64) {
-    say(b" ");
-    io::print_decimal(1, n);
-}
-
-fn write_refusal(why: Refusal) {
-    say(b"NO");
-    write_number(why.number as u64);
-    write_number(why.place as u64);
-    write_number(why.detail as u64);
-}
-
-fn write_outcome(outcome: Outcome) {
+fn write_outcome(out: &mut String, outcome: Outcome) -> Result<(), AllocError> {
     match outcome {
-        Outcome::Booked => say(b"booked"),
+        Outcome::Booked => out.push_str("booked"),
         Outcome::AlreadyBooked(status) => {
-            say(b"already booked");
+            out.push_str("already booked")?;
             if status != 0 {
-                say(b", cancelled");
+                out.push_str(", cancelled")?;
             }
+            Ok(())
         }
-        Outcome::Cancelled => say(b"cancelled"),
-        Outcome::AlreadyCancelled => say(b"already cancelled"),
-        Outcome::Refused(why) => write_refusal(why),
+        Outcome::Cancelled => out.push_str("cancelled"),
+        Outcome::AlreadyCancelled => out.push_str("already cancelled"),
+        Outcome::Refused(why) => write_refusal(out, why),
     }
 }
 
-fn write_sum(sum: Sum) {
+fn write_sum(out: &mut String, sum: Sum) -> Result<(), AllocError> {
+    out.push_str(" ")?;
     match sum {
-        Sum::Amount(cents) => write_number(cents),
-        Sum::Refused(why) => {
-            say(b" ");
-            write_refusal(why);
-        }
+        Sum::Amount(cents) => write!(out, "{cents}"),
+        Sum::Refused(why) => write_refusal(out, why),
     }
 }
 
 // What came of it with the parts of both railways, and what the book then owes them and in all.
-fn write_line(receipt: Receipt, book: &[u32]) {
+fn write_line(out: &mut String, receipt: Receipt, book: &[u32]) -> Result<(), AllocError> {
     let outcome = receipt.outcome;
     let parts = receipt.parts;
-    write_outcome(outcome);
-    say(b": parts");
-    write_number(parts[0] as u64);
-    write_number(parts[1] as u64);
-    say(b"; balances");
-    write_sum(offers::balance(book, 1185));
-    write_sum(offers::balance(book, 1181));
-    say(b"; total");
-    write_sum(offers::total(book));
-    say(b"\n");
+    let first = parts[0];
+    let second = parts[1];
+    write_outcome(out, outcome)?;
+    write!(out, ": parts {first} {second}; balances")?;
+    write_sum(out, offers::balance(book, 1185))?;
+    write_sum(out, offers::balance(book, 1181))?;
+    out.push_str("; total")?;
+    write_sum(out, offers::total(book))?;
+    out.push_str("\n")
 }
 
-fn main() {
-    let mut buffer = [0u8; 4096];
-    let n = io::read_full(0, &mut buffer);
-    let bundle = &buffer[..n];
-    let mut book = [0u32; 16385];
-    let sold = offers::sale(&mut book, bundle, 1, 1, ticket(3, [0; 4]));
-    write_line(sold, &book);
-    let again = offers::sale(&mut book, bundle, 1, 1, ticket(3, [0; 4]));
-    write_line(again, &book);
-    let cancelled = offers::cancel(&mut book, 1, 1);
-    write_line(cancelled, &book);
-    let late = offers::sale(&mut book, bundle, 1, 1, ticket(3, [0; 4]));
-    write_line(late, &book);
-    let family = offers::sale(&mut book, bundle, 1, 2, ticket(2, [5, 7, 0, 0]));
-    write_line(family, &book);
-    let turned = offers::sale(&mut book, bundle, 1, 2, ticket(2, [7, 5, 0, 0]));
-    write_line(turned, &book);
+// What each step of the day comes to, in a book that starts empty.
+fn sell(out: &mut String, book: &mut [u32], bundle: &[u8]) -> Result<(), AllocError> {
+    let sold = offers::sale(book, bundle, 1, 1, ticket(3, [0; 4]));
+    write_line(out, sold, book)?;
+    let again = offers::sale(book, bundle, 1, 1, ticket(3, [0; 4]));
+    write_line(out, again, book)?;
+    let cancelled = offers::cancel(book, 1, 1);
+    write_line(out, cancelled, book)?;
+    let late = offers::sale(book, bundle, 1, 1, ticket(3, [0; 4]));
+    write_line(out, late, book)?;
+    let family = offers::sale(book, bundle, 1, 2, ticket(2, [5, 7, 0, 0]));
+    write_line(out, family, book)?;
+    let turned = offers::sale(book, bundle, 1, 2, ticket(2, [7, 5, 0, 0]));
+    write_line(out, turned, book)
+}
+
+// A read that fails ends the input.
+fn main(rt: HostRuntime) -> io::Result<()> {
+    let mut buffer = vec![in rt.alloc(); 0u8; LIMIT]?;
+    let n = input::read_full(&mut rt.stdin(), &mut buffer);
+    let mut book = vec![in rt.alloc(); 0u32; WORDS]?;
+    let mut out = String::new(rt.alloc());
+    sell(&mut out, &mut book, &buffer[..n])?;
+    rt.print(out)
 }
