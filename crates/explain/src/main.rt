@@ -1,8 +1,8 @@
 // Reads a bundle from standard input and tells the verdict on it in words, for the railway that delivered it.
 #![tactic(auto)]
 
-use offers::Judgement;
 use names::{field_names, words};
+use offers::Judgement;
 use std::alloc::AllocError;
 use std::io;
 

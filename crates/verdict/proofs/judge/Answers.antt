@@ -1,5 +1,5 @@
 -- Input over the program's limit is refused, other input is judged as a bundle.
-use Rattle.std.proofs.Common.{rules, sym, ap, ◌∙◌}
+use Rattle.std.proofs.Common.{sym, ap, ◌∙◌}
 use borrow.Author.Tests.{lt-ltb, le-ltb}
 use Rattle.bundle.specs.declared.Judgement.TheVariants.{Refused}
 use Rattle.verdict.specs.Program.{program_verdict}
