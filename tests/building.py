@@ -4,7 +4,7 @@ A small checkout is made, with a stand-in for rt whose crates take no time to pr
 """
 import os
 import pathlib
-import platform
+import re
 import shutil
 import signal
 import subprocess
@@ -12,22 +12,32 @@ import time
 
 from trial import PATIENCE, ROOT, Told, as_other_user, end, other_user_reads, run, start
 
-# It notes each build, and that two builds went on at once. The files beside it say what else it does.
+# It notes each build, and that two builds went on at once. The files beside it say what else it does. As rt does, it speaks on
+# standard error and ends as the program ends that it built.
 RT = """\
 #!/bin/bash
 kit=$(cd "$(dirname "$0")/.." && pwd)
-[ "$1" != doc ] || { echo "$kit/docs/START-HERE.md"; exit; }
-echo "$2" >>"$kit/builds"
+[ "$1" != doc ] || { echo "$kit/START-HERE.md"; exit; }
+[ "$*" = run ] || exit 2
+exec 3>&1 >&2
+program=$(basename "$PWD")
+echo "$program" >>"$kit/builds"
 mkdir "$kit/busy" || { echo clash >>"$kit/builds"; exit 1; }
 trap 'rmdir "$kit/busy"' EXIT
-echo "rt: common proved (unchanged since it was last proved)"
-echo "rt: layout proved (11 s)"
+echo "rt: common: begins with what a check kept in /elsewhere/crates/common"
+echo "rt: chose --jobs 2 for layout"
+echo "library common: modules loaded=252 checked=0"
+echo "crate layout: modules loaded=0 checked=1680"
+echo "logic=proved functions=54 sum=dac8208d650f15bf"
+echo "rt: chose --jobs 2 for $program"
 echo "fn verdict::main: proved"
 [ ! -f "$kit/during" ] || . "$kit/during"
-mkdir -p target/bin target/stamp
-[ -f "$kit/idle" ] || cp "$kit/program" "target/bin/$2"
-echo "rt: $2 proved (2 s)"
-touch "target/stamp/$2"
+mkdir -p out
+[ -f "$kit/idle" ] || cp "$kit/program" "out/$program"
+echo "crate $program: modules loaded=0 checked=220"
+echo "logic=proved functions=7 sum=dac8208d650f15bf"
+echo "rt: running out/$program; to give it other input, run that file yourself"
+"out/$program" >&3
 """
 LOADER = '#!/bin/sh\nshift 2\nexec "$@"\n'
 EMULATOR = '#!/bin/sh\nexec "$@"\n'
@@ -41,7 +51,12 @@ def executable(path, text):
 
 
 def progress(command, program):
-    return f"{command}: proved layout (11 s)\n{command}: proved {program} (2 s)\n"
+    return f"{command}: proved layout (N s)\n{command}: proved {program} (N s)\n"
+
+
+def timeless(said):
+    """What is said, whatever the seconds that a crate took."""
+    return re.sub(r"(?m)( proved \w+) \(\d+ s\)$", r"\1 (N s)", said)
 
 
 def first_build(command="judge", program="verdict"):
@@ -59,14 +74,15 @@ class Checkout:
         for part in ("judge", "explain"):
             shutil.copy2(ROOT / part, self.root)
         shutil.copytree(ROOT / "tools", self.root / "tools")
-        self.source = self.root / "crates" / "verdict" / "src" / "main.rt"
-        self.source.parent.mkdir(parents=True)
-        self.source.write_text("fn main() {}\n")
-        (self.root / "crates.txt").write_text("verdict:\n")
+        self.source, other = (self.root / "crates" / name / "src" / "main.rt" for name in ("verdict", "explain"))
+        for source in self.source, other:
+            source.parent.mkdir(parents=True)
+            source.write_text("fn main() {}\n")
+        (self.root / "crates.txt").write_text("verdict:\nexplain:\n")
         self.input = path / "input"
         self.input.write_text("four")
         executable(self.kit / "bin" / "rt", RT)
-        toolchain = self.kit / "on" / platform.machine() / "toolchain"
+        toolchain = self.kit / "toolchain"
         executable(toolchain / "lib" / "ld-linux-x86-64.so.2", LOADER)
         # asked for where the processor is another than that of the code
         executable(toolchain / "bin" / "qemu-x86_64", EMULATOR)
@@ -81,7 +97,11 @@ class Checkout:
         return start(self.words(command), env=self.env, **more)
 
     def run(self, command="judge"):
-        return end(self.start(command))
+        return self.end(self.start(command))
+
+    def end(self, process):
+        told = end(process)
+        return Told(told.wrote, timeless(told.said), told.status)
 
     def builds(self):
         noted = self.kit / "builds"
@@ -135,7 +155,7 @@ def unchanged_for_rt(checkout, tally):
 
 
 def change_during_build(checkout, tally):
-    checkout.during_builds("sleep 0.1; touch crates/verdict/src/main.rt; sleep 0.1")
+    checkout.during_builds("sleep 0.1; touch src/main.rt; sleep 0.1")
     checkout.run()
     checkout.as_usual()
     tally.hold("source changed during the build", checkout.run(), Told("OK 4\n", later_build(), 0))
@@ -153,7 +173,7 @@ def four_at_once(checkout, tally):
     (checkout.kit / "go").touch()
     told = [end(process) for process in runs]
     tally.holds("four at once", [(one.wrote, one.status) for one in told] == 4 * [("OK 4\n", 0)], told)
-    said = sorted(path.read_text() for path in heard)
+    said = sorted(timeless(path.read_text()) for path in heard)
     tally.holds("three of four wait", said == [first_build()] + 3 * [waiting], said)
     tally.holds("four at once build once", checkout.builds() == ["verdict"], checkout.builds())
 
@@ -167,7 +187,7 @@ def both_at_once(checkout, tally):
 
 def locked_again(checkout, tally):
     locked = checkout.root / "tools" / "locked"
-    told = run([locked, locked, *checkout.words()], env=checkout.env)
+    told = checkout.end(start([locked, locked, *checkout.words()], env=checkout.env))
     tally.hold("build by who has the lock", told, Told("OK 4\n", first_build(), 0))
     tally.hold("status of what is run", run([locked, "sh", "-c", "exit 7"]), Told("", "", 7))
 
@@ -182,8 +202,8 @@ def failing_build(checkout, tally):
 
 
 def cut_off_build(checkout, tally):
-    """A program that is there in part, with no stamp, is built anew."""
-    half = "mkdir -p target/bin; printf '#!/bin/sh\\n' >target/bin/$2; chmod +x target/bin/$2"
+    """A program that is there in part is built anew."""
+    half = "mkdir -p out; printf '#!/bin/sh\\n' >out/$program; chmod +x out/$program"
     checkout.during_builds(half + '; rmdir "$kit/busy"; kill -9 $$')
     told = checkout.run()
     tally.holds("build killed", (told.wrote, told.status) == ("", 2) and told.said.count("judge: verdict was not built") == 1, told)
@@ -198,7 +218,7 @@ def interrupted_build(checkout, tally):
     while not (checkout.kit / "begun").exists() and process.poll() is None:
         time.sleep(0.02)
     os.killpg(process.pid, signal.SIGINT)
-    told = end(process)
+    told = checkout.end(process)
     line = "judge: interrupted; the next run builds on from here\n"
     tally.holds("build interrupted", (told.wrote, told.status) == ("", 2) and told.said.endswith(line), told)
     checkout.as_usual()
@@ -265,9 +285,11 @@ def real_program_elsewhere(folder, tally):
     """The programs as they are built here, in a copy of this checkout at a path with spaces."""
     copy = folder / "a checkout  elsewhere"
     copy.mkdir()
-    for part in ("judge", "explain", "tools", "crates", "crates.txt", "examples", "target/bin", "target/stamp"):
+    for part in ("judge", "explain", "tools", "crates.txt", "examples", "target/bin"):
         (copy / part).parent.mkdir(exist_ok=True)
         subprocess.run(["cp", "-a", ROOT / part, copy / part], check=True)
+    # what rt keeps beside the sources is large, and no part of a checkout
+    shutil.copytree(ROOT / "crates", copy / "crates", ignore=shutil.ignore_patterns("out"))
     for command in ("judge", "explain"):
         words = (copy / "examples" / "sample.txt").read_text()
         due = words if command == "explain" else words.split("\n")[0] + "\n"
