@@ -63,7 +63,7 @@ fn explain(out: &mut String, bundle: &[u8]) -> Result<(), AllocError> {
 // The buffer has room for a byte more than a bundle may have, so that a longer one shows. A read that fails ends the input.
 fn main(rt: HostRuntime) -> io::Result<()> {
     let mut buffer = vec![in rt.alloc(); 0u8; LIMIT + 1]?;
-    let n = input::read_full(&mut rt.stdin(), &mut buffer);
+    let (n, _) = input::read_full(&mut rt.stdin(), &mut buffer);
     let mut out = String::new(rt.alloc());
     explain(&mut out, &buffer[..n])?;
     rt.print(out)

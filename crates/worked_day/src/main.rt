@@ -101,7 +101,7 @@ fn sell(out: &mut String, book: &mut [u32], bundle: &[u8]) -> Result<(), AllocEr
 // A read that fails ends the input.
 fn main(rt: HostRuntime) -> io::Result<()> {
     let mut buffer = vec![in rt.alloc(); 0u8; LIMIT]?;
-    let n = input::read_full(&mut rt.stdin(), &mut buffer);
+    let (n, _) = input::read_full(&mut rt.stdin(), &mut buffer);
     let mut book = vec![in rt.alloc(); 0u32; WORDS]?;
     let mut out = String::new(rt.alloc());
     sell(&mut out, &mut book, &buffer[..n])?;
