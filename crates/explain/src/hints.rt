@@ -6,34 +6,29 @@ use layout::{fields, rules};
 use names::field_names::say_mark;
 use names::field_rules::first_bad;
 use names::words::{say, say_length, say_quoted, sum};
-use std::alloc::AllocError;
+use std::io;
 
 // What may be wrong where a record should start and no mark stands.
-pub fn tell_mark_mistakes(out: &mut String, bundle: &[u8], at: usize) -> Result<(), AllocError> {
+pub fn tell_mark_mistakes(rt: &impl Print, bundle: &[u8], at: usize) -> io::Result<()> {
     let table = table_in_capitals(bundle, at);
     if table < layout::TABLES {
-        say(out, "Marks are capital letters: this would be the mark ")?;
-        say_mark(out, table)?;
-        return say(out, ".\n");
+        say(rt, b"Marks are capital letters: this would be the mark ")?;
+        say_mark(rt, table)?;
+        return say(rt, b".\n");
     }
-    tell_odd_byte(out, bundle, at)?;
-    tell_mark_nearby(out, bundle, at)
+    tell_odd_byte(rt, bundle, at)?;
+    tell_mark_nearby(rt, bundle, at)
 }
 
 // What may be wrong in a record of which a field breaks its rule.
-pub fn tell_field_mistakes(
-    out: &mut String,
-    bundle: &[u8],
-    at: usize,
-    row: Row,
-) -> Result<(), AllocError> {
+pub fn tell_field_mistakes(rt: &impl Print, bundle: &[u8], at: usize, row: Row) -> io::Result<()> {
     let body = body_at(bundle, at);
     if row.kind == rules::TEXT {
-        tell_characters(out, fields::field(body, row.start, row.length))?;
+        tell_characters(rt, fields::field(body, row.start, row.length))?;
     }
     let upto = common::less(sum(row.start, row.length), 1);
-    tell_two_byte_letter(out, common::part(body, 0, upto), sum(at, 2))?;
-    tell_shift(out, bundle, sum(sum(at, 2), body.len()))
+    tell_two_byte_letter(rt, common::part(body, 0, upto), sum(at, 2))?;
+    tell_shift(rt, bundle, sum(sum(at, 2), body.len()))
 }
 
 // The table whose mark stands at a place if small letters count as capital ones.
@@ -53,22 +48,22 @@ fn capital(letter: u8) -> u8 {
 }
 
 // A line end, or the byte that many files start with which were saved as UTF-8.
-fn tell_odd_byte(out: &mut String, bundle: &[u8], at: usize) -> Result<(), AllocError> {
+fn tell_odd_byte(rt: &impl Print, bundle: &[u8], at: usize) -> io::Result<()> {
     let odd = common::byte_at(bundle, sum(at, 1));
     if is_line_end(odd) {
-        say(out, "This is a line end. ")?;
+        say(rt, b"This is a line end. ")?;
         say(
-            out,
-            "Between records, and behind the last one, stands nothing.\n",
+            rt,
+            b"Between records, and behind the last one, stands nothing.\n",
         )?;
     }
     if at == 0 {
         if odd == 239 {
             say(
-                out,
-                "Many files that were saved as UTF-8 start with this byte. ",
+                rt,
+                b"Many files that were saved as UTF-8 start with this byte. ",
             )?;
-            say(out, "A bundle is ISO 8859-1.\n")?;
+            say(rt, b"A bundle is ISO 8859-1.\n")?;
         }
     }
     Ok(())
@@ -85,22 +80,22 @@ fn is_line_end(b: u8) -> bool {
 // How far from its place a mark is looked for: less than the shortest record, so that it is not the mark of the record before.
 const REACH: usize = 48;
 
-fn tell_mark_nearby(out: &mut String, bundle: &[u8], due: usize) -> Result<(), AllocError> {
+fn tell_mark_nearby(rt: &impl Print, bundle: &[u8], due: usize) -> io::Result<()> {
     let found = nearest_start(bundle, due);
     if found == due {
         return Ok(());
     }
-    say(out, "A mark, ")?;
-    say_mark(out, table_at(bundle, found))?;
-    say(out, ", stands ")?;
+    say(rt, b"A mark, ")?;
+    say_mark(rt, table_at(bundle, found))?;
+    say(rt, b", stands ")?;
     if due < found {
-        say_length(out, common::less(found, due))?;
-        write!(out, " further on, at byte {found}: ")?;
-        say(out, "what is before it is too long by as much.\n")
+        say_length(rt, common::less(found, due))?;
+        print!(rt; " further on, at byte {found}: ")?;
+        say(rt, b"what is before it is too long by as much.\n")
     } else {
-        say_length(out, common::less(due, found))?;
-        write!(out, " earlier, at byte {found}: ")?;
-        say(out, "what is before it is too short by as much.\n")
+        say_length(rt, common::less(due, found))?;
+        print!(rt; " earlier, at byte {found}: ")?;
+        say(rt, b"what is before it is too short by as much.\n")
     }
 }
 
@@ -132,7 +127,7 @@ fn seems_start(bundle: &[u8], at: usize) -> bool {
 }
 
 // Whether the record has bytes too many or too few shows by where the next one starts.
-fn tell_shift(out: &mut String, bundle: &[u8], due: usize) -> Result<(), AllocError> {
+fn tell_shift(rt: &impl Print, bundle: &[u8], due: usize) -> io::Result<()> {
     if bundle.len() <= due {
         return Ok(());
     }
@@ -142,59 +137,52 @@ fn tell_shift(out: &mut String, bundle: &[u8], due: usize) -> Result<(), AllocEr
     if nearest_start(bundle, due) == due {
         return Ok(());
     }
-    write!(out, "The next record should start at byte {due}. ")?;
-    tell_mark_nearby(out, bundle, due)
+    print!(rt; "The next record should start at byte {due}. ")?;
+    tell_mark_nearby(rt, bundle, due)
 }
 
 // What the first byte is that a text may not have.
-fn tell_characters(out: &mut String, text: &[u8]) -> Result<(), AllocError> {
+fn tell_characters(rt: &impl Print, text: &[u8]) -> io::Result<()> {
     let bad = common::byte_at(text, sum(first_bad(text), 1));
     say(
-        out,
-        "A bundle is ISO 8859-1, which has one byte for each character. ",
+        rt,
+        b"A bundle is ISO 8859-1, which has one byte for each character. ",
     )?;
-    write!(out, "Byte {bad}")?;
+    print!(rt; "Byte {bad}")?;
     match bad {
-        9 => say(out, " is a tab, which no text may have.\n"),
-        10 => say(out, " is a line end, which no text may have.\n"),
-        13 => say(out, " is a line end, which no text may have.\n"),
-        128..=159 => tell_foreign_byte(out),
-        _ => say(out, " is no character.\n"),
+        9 => say(rt, b" is a tab, which no text may have.\n"),
+        10 => say(rt, b" is a line end, which no text may have.\n"),
+        13 => say(rt, b" is a line end, which no text may have.\n"),
+        128..=159 => tell_foreign_byte(rt),
+        _ => say(rt, b" is no character.\n"),
     }
 }
 
-fn tell_foreign_byte(out: &mut String) -> Result<(), AllocError> {
-    say(out, " is none of them: ")?;
+fn tell_foreign_byte(rt: &impl Print) -> io::Result<()> {
+    say(rt, b" is none of them: ")?;
     say(
-        out,
-        "UTF-8 has such bytes within characters of several bytes, ",
+        rt,
+        b"UTF-8 has such bytes within characters of several bytes, ",
     )?;
     say(
-        out,
-        "Windows-1252 has dashes, curved quotes and the like there.\n",
+        rt,
+        b"Windows-1252 has dashes, curved quotes and the like there.\n",
     )
 }
 
 // The first two bytes that look like one letter in UTF-8, in the start of a record whose body starts at a place of the bundle.
-fn tell_two_byte_letter(
-    out: &mut String,
-    start_of_body: &[u8],
-    place: usize,
-) -> Result<(), AllocError> {
+fn tell_two_byte_letter(rt: &impl Print, start_of_body: &[u8], place: usize) -> io::Result<()> {
     let i = first_two_byte_letter(start_of_body);
     if start_of_body.len() <= i {
         return Ok(());
     }
-    say(out, "The bytes ")?;
-    say_quoted(out, common::part(start_of_body, i, 2))?;
+    say(rt, b"The bytes ")?;
+    say_quoted(rt, common::part(start_of_body, i, 2))?;
     let at = sum(place, i);
-    write!(
-        out,
-        " at byte {at} look like UTF-8, where a letter with an accent takes two bytes "
-    )?;
+    print!(rt; " at byte {at} look like UTF-8, where a letter with an accent takes two bytes ")?;
     say(
-        out,
-        "and shifts what follows. Save the file as ISO 8859-1.\n",
+        rt,
+        b"and shifts what follows. Save the file as ISO 8859-1.\n",
     )
 }
 

@@ -3,7 +3,6 @@
 
 use names::{field_names, words};
 use offers::Judgement;
-use std::alloc::AllocError;
 use std::io;
 
 mod hints;
@@ -13,50 +12,45 @@ mod refusals;
 // The most bytes that a bundle may have.
 const LIMIT: usize = 1048576;
 
-fn write_line(out: &mut String, verdict: Judgement) -> Result<(), AllocError> {
+fn write_line(rt: &impl Print, verdict: Judgement) -> io::Result<()> {
     match verdict {
-        Judgement::Accepted(records) => writeln!(out, "OK {records}"),
+        Judgement::Accepted(records) => println!(rt; "OK {records}"),
         Judgement::Refused(why) => {
             let number = why.number;
             let place = why.place;
             let detail = why.detail;
-            writeln!(out, "NO {number} {place} {detail}")
+            println!(rt; "NO {number} {place} {detail}")
         }
     }
 }
 
-fn tell_count(
-    out: &mut String,
-    bundle: &[u8],
-    records: usize,
-    table: u32,
-) -> Result<(), AllocError> {
-    field_names::say_table(out, table)?;
+fn tell_count(rt: &impl Print, bundle: &[u8], records: usize, table: u32) -> io::Result<()> {
+    field_names::say_table(rt, table)?;
     let count = places::count_of(bundle, records, table);
-    writeln!(out, ": {count}")
+    println!(rt; ": {count}")
 }
 
-fn tell_accepted(out: &mut String, bundle: &[u8], records: usize) -> Result<(), AllocError> {
+fn tell_accepted(rt: &impl Print, bundle: &[u8], records: usize) -> io::Result<()> {
     if records == 0 {
-        return words::say(out, "The bundle is empty: it has no record.\n");
+        return words::say(rt, b"The bundle is empty: it has no record.\n");
     }
     words::say(
-        out,
-        "The bundle is accepted: every record keeps the rules. ",
+        rt,
+        b"The bundle is accepted: every record keeps the rules. ",
     )?;
-    words::say(out, "Its records by table:\n")?;
-    tell_count(out, bundle, records, layout::CO)?;
-    tell_count(out, bundle, records, layout::RE)?;
-    tell_count(out, bundle, records, layout::AR)?;
-    tell_count(out, bundle, records, layout::ME)
+    words::say(rt, b"Its records by table:\n")?;
+    tell_count(rt, bundle, records, layout::CO)?;
+    tell_count(rt, bundle, records, layout::RE)?;
+    tell_count(rt, bundle, records, layout::AR)?;
+    tell_count(rt, bundle, records, layout::ME)
 }
 
-fn explain(out: &mut String, bundle: &[u8]) -> Result<(), AllocError> {
+fn explain(rt: &impl Print, bundle: &[u8]) -> io::Result<()> {
     let verdict = offers::verdict(bundle);
-    write_line(out, verdict)?;
+    write_line(rt, verdict)?;
     match verdict {
-        Judgement::Accepted(records) => tell_accepted(out, bundle, records),
-        Judgement::Refused(why) => refusals::tell(out, bundle, why),
+        Judgement::Accepted(records) => tell_accepted(rt, bundle, records),
+        Judgement::Refused(why) => refusals::tell(rt, bundle, why),
     }
 }
 
@@ -64,7 +58,5 @@ fn explain(out: &mut String, bundle: &[u8]) -> Result<(), AllocError> {
 fn main(rt: HostRuntime) -> io::Result<()> {
     let mut buffer = vec![in rt.alloc(); 0u8; LIMIT + 1]?;
     let (n, _) = input::read_full(&mut rt.stdin(), &mut buffer);
-    let mut out = String::new(rt.alloc());
-    explain(&mut out, &buffer[..n])?;
-    rt.print(out)
+    explain(&rt, &buffer[..n])
 }

@@ -1,61 +1,61 @@
-// Words, numbers and bytes, put behind a text. Each of these fails only where memory runs out.
-use std::alloc::AllocError;
+// Words, numbers and bytes, written to standard output. Each of these fails only where a write fails.
+use std::io;
 
-pub fn say(out: &mut String, text: &str) -> Result<(), AllocError> {
-    out.push_str(text)
+pub fn say(rt: &impl Print, text: &[u8]) -> io::Result<()> {
+    rt.write_all(text)
 }
 
-pub fn say_number(out: &mut String, n: usize) -> Result<(), AllocError> {
-    write!(out, "{n}")
+pub fn say_number(rt: &impl Print, n: usize) -> io::Result<()> {
+    print!(rt; "{n}")
 }
 
 // A number as a field of some width has it, with zeros in front.
-pub fn say_digits(out: &mut String, n: u32, width: usize) -> Result<(), AllocError> {
-    write!(out, "{n:0width$}")
+pub fn say_digits(rt: &impl Print, n: u32, width: usize) -> io::Result<()> {
+    print!(rt; "{n:0width$}")
 }
 
 // Bytes as they were delivered. What is no printable ASCII, or would be mistaken for a quote or for this way of writing, is shown as \xHH.
-pub fn say_bytes(out: &mut String, s: &[u8]) -> Result<(), AllocError> {
+pub fn say_bytes(rt: &impl Print, s: &[u8]) -> io::Result<()> {
     for b in s {
-        say_byte(out, *b)?;
+        say_byte(rt, *b)?;
     }
     Ok(())
 }
 
-pub fn say_quoted(out: &mut String, s: &[u8]) -> Result<(), AllocError> {
-    say(out, "\"")?;
-    say_bytes(out, s)?;
-    say(out, "\"")
+pub fn say_quoted(rt: &impl Print, s: &[u8]) -> io::Result<()> {
+    say(rt, b"\"")?;
+    say_bytes(rt, s)?;
+    say(rt, b"\"")
 }
 
 // The most bytes of a value that are shown.
 const SHOWN: usize = 60;
 
 // A value as it was delivered; of a long one the start, and how long it is.
-pub fn say_delivered(out: &mut String, s: &[u8]) -> Result<(), AllocError> {
-    say_quoted(out, common::part(s, 0, SHOWN))?;
+pub fn say_delivered(rt: &impl Print, s: &[u8]) -> io::Result<()> {
+    say_quoted(rt, common::part(s, 0, SHOWN))?;
     if SHOWN < s.len() {
-        say(out, "... (")?;
-        say_length(out, s.len())?;
-        say(out, ")")?;
+        say(rt, b"... (")?;
+        say_length(rt, s.len())?;
+        say(rt, b")")?;
     }
     Ok(())
 }
 
-pub fn say_length(out: &mut String, n: usize) -> Result<(), AllocError> {
-    say_number(out, n)?;
+pub fn say_length(rt: &impl Print, n: usize) -> io::Result<()> {
+    say_number(rt, n)?;
     if n == 1 {
-        say(out, " byte")
+        say(rt, b" byte")
     } else {
-        say(out, " bytes")
+        say(rt, b" bytes")
     }
 }
 
-fn say_byte(out: &mut String, b: u8) -> Result<(), AllocError> {
+fn say_byte(rt: &impl Print, b: u8) -> io::Result<()> {
     if is_plain(b) {
-        out.push(b as char)
+        rt.print(b as char)
     } else {
-        write!(out, "\\x{b:02X}")
+        print!(rt; "\\x{b:02X}")
     }
 }
 

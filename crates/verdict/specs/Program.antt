@@ -1,4 +1,4 @@
--- What the small program answers to its input.
+-- What the small program answers to its input (document 01, 'The verdict program').
 -- Assumes nothing.
 use Rattle.std.specs.Prelude.{ℕ, cond, List, ltb, length}
 use Rattle.common.specs.Checks.{refuse}

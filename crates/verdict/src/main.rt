@@ -33,7 +33,7 @@ fn write_line(rt: &impl Print, verdict: Judgement) -> io::Result<()> {
 
 // The buffer has room for a byte more than the limit, so that longer input shows. A read that fails ends the input.
 fn main(rt: HostRuntime) -> io::Result<()> {
-    let mut buffer = vec![in rt.alloc(); 0u8; LIMIT + 1]?;
+    let mut buffer = [0u8; LIMIT + 1];
     let (n, _) = input::read_full(&mut rt.stdin(), &mut buffer);
     write_line(&rt, judge(&buffer[..n]))
 }

@@ -3,7 +3,6 @@
 #![tactic(auto)]
 
 use offers::{Leg, Outcome, Question, Receipt, Refusal, Sum};
-use std::alloc::AllocError;
 use std::io;
 
 // The most bytes of the bundle that are read.
@@ -36,74 +35,72 @@ fn ticket(persons: u32, cards: [u32; 4]) -> Question {
     }
 }
 
-fn write_refusal(out: &mut String, why: Refusal) -> Result<(), AllocError> {
+fn write_refusal(rt: &impl Print, why: Refusal) -> io::Result<()> {
     let number = why.number;
     let place = why.place;
     let detail = why.detail;
-    write!(out, "NO {number} {place} {detail}")
+    print!(rt; "NO {number} {place} {detail}")
 }
 
-fn write_outcome(out: &mut String, outcome: Outcome) -> Result<(), AllocError> {
+fn write_outcome(rt: &impl Print, outcome: Outcome) -> io::Result<()> {
     match outcome {
-        Outcome::Booked => out.push_str("booked"),
+        Outcome::Booked => rt.print("booked"),
         Outcome::AlreadyBooked(status) => {
-            out.push_str("already booked")?;
+            rt.print("already booked")?;
             if status != 0 {
-                out.push_str(", cancelled")?;
+                rt.print(", cancelled")?;
             }
             Ok(())
         }
-        Outcome::Cancelled => out.push_str("cancelled"),
-        Outcome::AlreadyCancelled => out.push_str("already cancelled"),
-        Outcome::Refused(why) => write_refusal(out, why),
+        Outcome::Cancelled => rt.print("cancelled"),
+        Outcome::AlreadyCancelled => rt.print("already cancelled"),
+        Outcome::Refused(why) => write_refusal(rt, why),
     }
 }
 
-fn write_sum(out: &mut String, sum: Sum) -> Result<(), AllocError> {
-    out.push_str(" ")?;
+fn write_sum(rt: &impl Print, sum: Sum) -> io::Result<()> {
+    rt.print(" ")?;
     match sum {
-        Sum::Amount(cents) => write!(out, "{cents}"),
-        Sum::Refused(why) => write_refusal(out, why),
+        Sum::Amount(cents) => print!(rt; "{cents}"),
+        Sum::Refused(why) => write_refusal(rt, why),
     }
 }
 
 // What came of it with the parts of both railways, and what the book then owes them and in all.
-fn write_line(out: &mut String, receipt: Receipt, book: &[u32]) -> Result<(), AllocError> {
+fn write_line(rt: &impl Print, receipt: Receipt, book: &[u32]) -> io::Result<()> {
     let outcome = receipt.outcome;
     let parts = receipt.parts;
     let first = parts[0];
     let second = parts[1];
-    write_outcome(out, outcome)?;
-    write!(out, ": parts {first} {second}; balances")?;
-    write_sum(out, offers::balance(book, 1185))?;
-    write_sum(out, offers::balance(book, 1181))?;
-    out.push_str("; total")?;
-    write_sum(out, offers::total(book))?;
-    out.push_str("\n")
+    write_outcome(rt, outcome)?;
+    print!(rt; ": parts {first} {second}; balances")?;
+    write_sum(rt, offers::balance(book, 1185))?;
+    write_sum(rt, offers::balance(book, 1181))?;
+    rt.print("; total")?;
+    write_sum(rt, offers::total(book))?;
+    rt.print("\n")
 }
 
 // What each step of the day comes to, in a book that starts empty.
-fn sell(out: &mut String, book: &mut [u32], bundle: &[u8]) -> Result<(), AllocError> {
+fn sell(rt: &impl Print, book: &mut [u32], bundle: &[u8]) -> io::Result<()> {
     let sold = offers::sale(book, bundle, 1, 1, ticket(3, [0; 4]));
-    write_line(out, sold, book)?;
+    write_line(rt, sold, book)?;
     let again = offers::sale(book, bundle, 1, 1, ticket(3, [0; 4]));
-    write_line(out, again, book)?;
+    write_line(rt, again, book)?;
     let cancelled = offers::cancel(book, 1, 1);
-    write_line(out, cancelled, book)?;
+    write_line(rt, cancelled, book)?;
     let late = offers::sale(book, bundle, 1, 1, ticket(3, [0; 4]));
-    write_line(out, late, book)?;
+    write_line(rt, late, book)?;
     let family = offers::sale(book, bundle, 1, 2, ticket(2, [5, 7, 0, 0]));
-    write_line(out, family, book)?;
+    write_line(rt, family, book)?;
     let turned = offers::sale(book, bundle, 1, 2, ticket(2, [7, 5, 0, 0]));
-    write_line(out, turned, book)
+    write_line(rt, turned, book)
 }
 
 // A read that fails ends the input.
 fn main(rt: HostRuntime) -> io::Result<()> {
-    let mut buffer = vec![in rt.alloc(); 0u8; LIMIT]?;
+    let mut buffer = [0u8; LIMIT];
     let (n, _) = input::read_full(&mut rt.stdin(), &mut buffer);
-    let mut book = vec![in rt.alloc(); 0u32; WORDS]?;
-    let mut out = String::new(rt.alloc());
-    sell(&mut out, &mut book, &buffer[..n])?;
-    rt.print(out)
+    let mut book = [0u32; WORDS];
+    sell(&rt, &mut book, &buffer[..n])
 }
