@@ -1,5 +1,6 @@
 -- A REFUSAL BY MEANING: what the first check that fails says of the bundle, and back.
 -- Assumes nothing.
+use Rattle.std.specs.Prelude.{Err}
 use Prim.Native.Nat.{ℕ, ◌+◌, ◌≤◌, ◌<◌}
 use mathlib.Core.Path.{◌≡◌, refl, sym, ◌∙◌, ap}
 use mathlib.Core.Bool.{Bool, true, false, cond, and-false}
@@ -26,11 +27,9 @@ use Rattle.bundle.specs.Records.{Rec, no_rec, step_of, records_of, rest_of}
 use Rattle.bundle.specs.Keys.{other_transferor, clash, earlier_of}
 use Rattle.bundle.specs.Verdict.{limit, is_unknown, is_short, field_checks, end_checks, first_pass, record_checks, second_pass, checks, verdict_of}
 use Rattle.bundle.specs.Meaning.{joined, record_at, KeepsRules, Clash}
-use Rattle.bundle.specs.Faults.{Cut, Breaks, OfOneTransferor, Fits, FirstLook, SecondLook, Fault}
-use Rattle.bundle.specs.Faults.{too_long, unknown_mark, too_short, breaks_a_field, other_transferor_fault, repeats_a_key, lacks_a_link}
+use Rattle.bundle.specs.Faults.{Cut, Breaks, OfOneTransferor, Fits, FirstLook, SecondLook, Fault, too_long, unknown_mark, too_short, breaks_a_field, other_transferor_fault, repeats_a_key, lacks_a_link}
 use Rattle.bundle.specs.declared.walk.Step.{Step}
 use Rattle.bundle.specs.declared.walk.Step.TheVariants.{Unknown, Short, Whole}
-use Rattle.bundle.specs.declared.Judgement.TheVariants.{Refused}
 use Rattle.bundle.proofs.PassLaws.{is_fault}
 use Rattle.bundle.proofs.KeyMeaning.{clash_means, means_clash}
 use Rattle.bundle.proofs.LinkMeaning.{links_there, there_links, link_missing, missing_link_lem}
@@ -268,11 +267,11 @@ module _ (s : List ℕ) where
       in_second i k (refuse 7 i f) (rw (transferor_same R (record_at R i) t, clash_none R (record_at R i) ((cut_means s).whole i k.inside).named i c, e.0, e.1))
 
 -- A BUNDLE IS REFUSED with a number, a place and a detail only if it has that fault, and if it has.
-pub refused_fault : (s : List ℕ) (why : Refusal) → verdict_of s ≡ Refused why → Fault s (records_of s) (rest_of s) why.number why.place why.detail
+pub refused_fault : (s : List ℕ) (why : Refusal) → verdict_of s ≡ Err why → Fault s (records_of s) (rest_of s) why.number why.place why.detail
 unfolding verdict_of
 refused_fault s why e = fault_means s why (is_fault (first_fault (checks s)) (length (records_of s)) why e)
 
-pub fault_refused : (s : List ℕ) (R : List Rec) (rest : List ℕ) → Cut s R rest → (n p d : ℕ) → Fault s R rest n p d → verdict_of s ≡ Refused (refuse n p d)
+pub fault_refused : (s : List ℕ) (R : List Rec) (rest : List ℕ) → Cut s R rest → (n p d : ℕ) → Fault s R rest n p d → verdict_of s ≡ Err (refuse n p d)
 unfolding verdict_of
 fault_refused s R rest c n p d f =
     let e = cut_only s R rest c in

@@ -1,6 +1,7 @@
 -- WHAT A VERDICT MEANS. Accepted with n exactly if the bytes are n records that keep every rule; refused exactly if that check of the order fails
 -- and none before it.
 -- Assumes nothing.
+use Rattle.std.specs.Prelude.{Ok}
 use Prim.Native.Nat.{ℕ, suc, ◌+◌, ◌<◌}
 use mathlib.Core.Path.{◌≡◌, refl, sym, ◌∙◌}
 use mathlib.Core.Bool.{false, not}
@@ -24,7 +25,6 @@ use Rattle.bundle.specs.Records.{Rec, no_rec, records_of, rest_of}
 use Rattle.bundle.specs.Keys.{other_transferor, clash, earlier_of}
 use Rattle.bundle.specs.Verdict.{limit, field_checks, end_checks, first_pass, record_checks, second_pass, checks, verdict_of}
 use Rattle.bundle.specs.Meaning.{joined, record_at, KeepsRules, Clash, Good}
-use Rattle.bundle.specs.declared.Judgement.TheVariants.{Accepted}
 use Rattle.bundle.proofs.Steps.{nothing_there}
 use Rattle.bundle.proofs.Here.{Over, unknown, short}
 use Rattle.bundle.proofs.PassLaws.{is_clean_lem}
@@ -143,13 +143,13 @@ module _ (s : List ℕ) (R : List Rec) (g : Good s R) where
       (clean_append (first_pass s) (second_pass (records_of s)) first_clean second_clean)
 
 -- A bundle is accepted with n only if it is n records that keep every rule,
-pub accepted_good : (s : List ℕ) (n : ℕ) → verdict_of s ≡ Accepted n → Good s (records_of s) × (length (records_of s) ≡ n)
+pub accepted_good : (s : List ℕ) (n : ℕ) → verdict_of s ≡ Ok n → Good s (records_of s) × (length (records_of s) ≡ n)
 unfolding verdict_of
 accepted_good s n e =
     let d = is_clean_lem (first_fault (checks s)) (length (records_of s)) n e in
     (clean_good s d.0, d.1)
 
 -- and if it is.
-pub good_accepted : (s : List ℕ) (R : List Rec) → Good s R → verdict_of s ≡ Accepted (length R)
+pub good_accepted : (s : List ℕ) (R : List Rec) → Good s R → verdict_of s ≡ Ok (length R)
 unfolding verdict_of
 good_accepted s R g = rw (good_clean s R g, recut s R g)

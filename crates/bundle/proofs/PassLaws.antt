@@ -1,5 +1,6 @@
 -- What each record adds to the two passes: the laws that their loops cite.
 -- Assumes nothing.
+use Rattle.std.specs.Prelude.{Ok, Err}
 use Prim.Native.Nat.{ℕ, ◌+◌, ◌-◌, ◌≤◌, ◌<◌}
 use mathlib.Core.Path.{◌≡◌, refl, ◌∙◌}
 use mathlib.Core.Bool.{Bool, true, false, cond, not}
@@ -24,7 +25,6 @@ use Rattle.bundle.specs.Links.{links, link_rows, no_link, joins, serves, missing
 use Rattle.bundle.specs.declared.links.Link.{Link}
 use Rattle.bundle.specs.Verdict.{limit, field_checks, end_checks, first_pass, record_checks, second_pass, checks, judged, verdict_of}
 use Rattle.bundle.specs.Helpers.{first_tells, second_tells}
-use Rattle.bundle.specs.declared.Judgement.TheVariants.{Accepted, Refused}
 use Rattle.bundle.specs.declared.walk.Step.TheVariants.{Unknown, Short}
 use Rattle.bundle.proofs.Steps.{nothing_there}
 use Rattle.bundle.proofs.Here.{Here, Stands, Over, unknown, short, over_nil, over_rest, over_count}
@@ -116,15 +116,15 @@ pub compared : (R : List Rec) (r : Rec) {b : Bool} {x y : List ℕ} → b ≡ sa
 unfolding other_transferor
 compared R r e f g = rw (e, f, g)
 
--- a judgement tells what was found
+-- a verdict tells what was found
 module _ (f : Finding) (n : ℕ) where
-  pub is_fault : (r : Refusal) → judged f n ≡ Refused r → f ≡ fault r
-  is_fault r e = ⊎_elim (λ h. cc) (λ h. cc) (by_finding Refused f (Accepted n) e)
+  pub is_fault : (r : Refusal) → judged f n ≡ Err r → f ≡ fault r
+  is_fault r e = ⊎_elim (λ h. cc) (λ h. cc) (by_finding f n e)
 
-  pub is_clean_lem : (m : ℕ) → judged f n ≡ Accepted m → (f ≡ clean) × (n ≡ m)
-  is_clean_lem m e = ⊎_elim (λ h. (h.0, cc)) (λ h. (cc, cc)) (by_finding Refused f (Accepted n) e)
+  pub is_clean_lem : (m : ℕ) → judged f n ≡ Ok m → (f ≡ clean) × (n ≡ m)
+  is_clean_lem m e = ⊎_elim (λ h. (h.0, cc)) (λ h. (cc, cc)) (by_finding f n e)
 
-pub too_long : (s : List ℕ) → limit < length s → verdict_of s ≡ Refused (refuse 1 0 0)
+pub too_long : (s : List ℕ) → limit < length s → verdict_of s ≡ Err (refuse 1 0 0)
 unfolding verdict_of checks first_fault
 too_long s l = rw (lt-ltb _ _ l)
 
@@ -133,11 +133,11 @@ module _ (s : List ℕ) (l : length s ≤ limit) where
   unfolding checks first_fault
   in_order = rw (le-ltb _ _ l) (fault_append (first_pass s) (second_pass (records_of s)))
 
-  pub by_first : (r : Refusal) → first_tells s ≡ Refused r → verdict_of s ≡ Refused r
+  pub by_first : (r : Refusal) → first_tells s ≡ Err r → verdict_of s ≡ Err r
   unfolding verdict_of
   by_first r e = rw (in_order, is_fault (first_fault (first_pass s)) (length (records_of s)) r e)
 
-  pub by_second : (m : ℕ) → first_tells s ≡ Accepted m → verdict_of s ≡ second_tells s
+  pub by_second : (m : ℕ) → first_tells s ≡ Ok m → verdict_of s ≡ second_tells s
   unfolding verdict_of
   by_second m e = rw (in_order, (is_clean_lem (first_fault (first_pass s)) (length (records_of s)) m e).0)
 

@@ -1,12 +1,11 @@
 -- Verdicts that document 01 gives, and a few that stand for its rules and for those of document 02, in one list: each is asked of the engine itself, on a
 -- bundle that is written out.
 -- Assumes nothing.
-use Rattle.std.specs.Prelude.{ℕ, ◌≡◌, List, [], ◌∷◌, ◌++◌, take, drop}
+use Rattle.std.specs.Prelude.{Ok, Err, ℕ, ◌≡◌, List, [], ◌∷◌, ◌++◌, take, drop}
 use Rattle.common.specs.Checks.{refuse}
 use Rattle.layout.specs.Bytes.{byte_plus, byte_N, byte_Y}
 use Rattle.bundle.specs.Verdict.{verdict_of}
 use Rattle.bundle.specs.Samples.{digits, period, grant, conditions_in, conditions, named_in, named, card_name, memo, card}
-use Rattle.bundle.specs.declared.Judgement.TheVariants.{Accepted, Refused}
 
 -- a bundle is accepted with so many records; or refused with a number, a place and a detail
 pub data Figure : Type 0 where
@@ -14,8 +13,8 @@ pub data Figure : Type 0 where
   refused : (bundle : List ℕ) (number place detail : ℕ) → Figure
 
 abbrev pub Says : Figure → Type 0
-Says (accepted bundle n) = verdict_of bundle ≡ Accepted n
-Says (refused bundle n p d) = verdict_of bundle ≡ Refused (refuse n p d)
+Says (accepted bundle n) = verdict_of bundle ≡ Ok n
+Says (refused bundle n p d) = verdict_of bundle ≡ Err (refuse n p d)
 
 -- a CO of a quarter off, by its railway and its flag 33; an AR of 30 % off
 abbrev pub quarter : ℕ → ℕ → List ℕ

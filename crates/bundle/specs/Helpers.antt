@@ -1,12 +1,12 @@
 -- What the code's helpers answer: places in the bundle in place of numbers of records. Nothing here has to be believed: no promise and no answer of a call
 -- is stated with it.
 -- Assumes nothing.
-use Rattle.std.specs.Prelude.{ℕ, zero, suc, ◌+◌, Bool, List, [], ◌∷◌, length, take, drop}
+use Rattle.std.specs.Prelude.{Result, ℕ, zero, suc, ◌+◌, Bool, List, [], ◌∷◌, length, take, drop}
 use Rattle.common.specs.Lists.{same}
+use Rattle.common.specs.declared.Refusal.{Refusal}
 use Rattle.common.specs.Checks.{first_fault}
 use Rattle.bundle.specs.Records.{step_of, if_whole, between, records_of}
 use Rattle.bundle.specs.Verdict.{first_pass, second_pass, judged}
-use Rattle.bundle.specs.declared.Judgement.{Judgement}
 use Rattle.bundle.specs.declared.walk.Step.{Step}
 use Rattle.bundle.specs.declared.walk.Step.TheVariants.{Unknown, Short, Whole}
 
@@ -40,8 +40,8 @@ unfoldable pub place_behind : List ℕ → ℕ → ℕ
 place_behind s p = if_whole (step_at s p) 0 (λ t start next. next)
 
 -- what each pass tells by itself
-abbrev pub first_tells : List ℕ → Judgement
+abbrev pub first_tells : List ℕ → Result ℕ Refusal
 first_tells s = judged (first_fault (first_pass s)) (length (records_of s))
 
-abbrev pub second_tells : List ℕ → Judgement
+abbrev pub second_tells : List ℕ → Result ℕ Refusal
 second_tells s = judged (first_fault (second_pass (records_of s))) (length (records_of s))

@@ -1,6 +1,7 @@
 -- The verdict on a bundle: its checks in document 01's order, of which the first that fails is told ('Keys and links', 'Numbers that turn work away').
 -- Assumes nothing.
-use Rattle.std.specs.Prelude.{ℕ, Bool, true, false, not, ◌&&◌, List, [], ◌∷◌, ◌++◌, eqb, ltb, length, get_or}
+use Rattle.std.specs.Prelude.{Result, ℕ, Bool, true, false, not, ◌&&◌, List, [], ◌∷◌, ◌++◌, eqb, ltb, length, get_or}
+use Rattle.common.specs.declared.Refusal.{Refusal}
 use Rattle.common.specs.Checks.{Finding, Check, check, unless, first_fault, each_from}
 use Rattle.layout.specs.Rules.{broken_field}
 use Rattle.bundle.specs.Records.{Rec, step_of, records_of, rest_of}
@@ -8,8 +9,6 @@ use Rattle.bundle.specs.Keys.{other_transferor, earlier_of}
 use Rattle.bundle.specs.Links.{links, link_rows, no_link, missing_link}
 use Rattle.bundle.specs.declared.walk.Step.{Step}
 use Rattle.bundle.specs.declared.walk.Step.TheVariants.{Unknown, Short, Whole}
-use Rattle.bundle.specs.declared.Judgement.{Judgement}
-use Rattle.bundle.specs.declared.Judgement.TheVariants.{Accepted, Refused}
 
 -- "A bundle has 0 to 1,048,576 bytes."
 abbrev pub limit : ℕ
@@ -61,9 +60,9 @@ second_pass R = each_from 0 (record_checks R) R
 unfoldable pub checks : List ℕ → List Check
 checks s = check (ltb limit (length s)) 1 0 0 ∷ (first_pass s ++ second_pass (records_of s))
 
-abbrev pub judged : Finding → ℕ → Judgement
-judged f n = unless Refused f (Accepted n)
+abbrev pub judged : Finding → ℕ → Result ℕ Refusal
+judged f n = unless f n
 
 -- THE VERDICT: the first check that fails, or else the number of the records
-unfoldable pub verdict_of : List ℕ → Judgement
+unfoldable pub verdict_of : List ℕ → Result ℕ Refusal
 verdict_of s = judged (first_fault (checks s)) (length (records_of s))

@@ -12,24 +12,17 @@ mod passes;
 mod room;
 pub mod walk;
 
-// The verdict on a bundle: how many records it has, or the first fault.
-#[derive(Clone, Copy)]
-pub enum Judgement {
-    Accepted(usize),
-    Refused(common::Refusal),
-}
+use common::Refusal;
 
 const LIMIT: usize = 1048576;
 
-pub fn verdict(bundle: &[u8]) -> Judgement
+// The verdict on a bundle: how many records it has, or the first fault.
+pub fn verdict(bundle: &[u8]) -> Result<usize, Refusal>
     ensures { result ≡ verdict_of bundle.now }
 {
     if LIMIT < bundle.len() {
-        return Judgement::Refused(common::refuse(1, 0, 0));
+        return Err(common::refuse(1, 0, 0));
     }
-    let first = passes::first_pass(bundle);
-    match first {
-        Judgement::Refused(why) => Judgement::Refused(why),
-        Judgement::Accepted(records) => room::second_pass(bundle, records),
-    }
+    let records = passes::first_pass(bundle)?;
+    room::second_pass(bundle, records)
 }

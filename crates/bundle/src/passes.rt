@@ -3,11 +3,11 @@ ghost use Rattle.std.specs.Prelude.{◌≡◌};
 ghost use Rattle.bundle.specs.Helpers.{first_tells, second_tells};
 ghost use Rattle.bundle.specs.Hints.{Hinted};
 
-use super::Judgement;
 use super::walk::Step;
+use common::Refusal;
 
 // Each record by itself: 2, then 3, then 4.
-pub fn first_pass(bundle: &[u8]) -> Judgement
+pub fn first_pass(bundle: &[u8]) -> Result<usize, Refusal>
     ensures { result ≡ first_tells bundle.now }
 {
     let rows = layout::rows::all();
@@ -18,10 +18,10 @@ pub fn first_pass(bundle: &[u8]) -> Judgement
         let here = super::walk::step_at(bundle, at);
         match here {
             Step::Unknown => {
-                return Judgement::Refused(common::refuse(2, i, 0));
+                return Err(common::refuse(2, i, 0));
             }
             Step::Short => {
-                return Judgement::Refused(common::refuse(3, i, 0));
+                return Err(common::refuse(3, i, 0));
             }
             Step::Whole(table, start, next) => {
                 let field = layout::rows::broken_field(
@@ -29,14 +29,14 @@ pub fn first_pass(bundle: &[u8]) -> Judgement
                     &bundle[start..next],
                 );
                 if field != 0 {
-                    return Judgement::Refused(common::refuse(4, i, field));
+                    return Err(common::refuse(4, i, field));
                 }
                 at = next;
                 i += 1;
             }
         }
     }
-    Judgement::Accepted(i)
+    Ok(i)
 }
 
 // Each record beside the others: 5, then 6, then 7, before the next record.
@@ -45,7 +45,7 @@ pub fn second_pass(
     heads: &mut [u8],
     lows: &mut [u16],
     hints: &mut [u32],
-) -> Judgement
+) -> Result<usize, Refusal>
     requires { Hinted bundle.now hints.old }
     ensures { result ≡ second_tells bundle.now }
 {
@@ -56,11 +56,11 @@ pub fn second_pass(
     let verdict = 'records: loop {
         let here = super::walk::step_at(bundle, at);
         let Step::Whole(table, start, next) = here else {
-            break 'records Judgement::Accepted(i);
+            break 'records Ok(i);
         };
         let r = &bundle[start..next];
         if !common::same_bytes(layout::fields::transferor(r), transferor) {
-            break 'records Judgement::Refused(common::refuse(5, i, 0));
+            break 'records Err(common::refuse(5, i, 0));
         }
         let mut p = 0;
         let mut j = 0;
@@ -75,10 +75,10 @@ pub fn second_pass(
             let there = super::walk::step_at(bundle, p);
             // every record before this one was whole, so that this is never reached
             let Step::Whole(t, s, e) = there else {
-                break 'records Judgement::Accepted(j);
+                break 'records Ok(j);
             };
             if super::keys::clashes(table, r, t, &bundle[s..e]) {
-                break 'records Judgement::Refused(common::refuse(6, i, j));
+                break 'records Err(common::refuse(6, i, j));
             }
             p = e;
             j += 1;
@@ -86,7 +86,7 @@ pub fn second_pass(
         let k = super::links::missing_link(bundle, hints, table, r);
         if k < super::links::LINKS {
             let link = super::links::link_at(k);
-            break 'records Judgement::Refused(common::refuse(7, i, link.detail));
+            break 'records Err(common::refuse(7, i, link.detail));
         }
         at = next;
         i += 1;

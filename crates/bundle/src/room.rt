@@ -4,7 +4,7 @@ ghost use Rattle.std.specs.Prelude.{◌≡◌};
 ghost use Rattle.bundle.specs.Helpers.{second_tells};
 ghost use Rattle.bundle.specs.Hints.{Hinted};
 
-use super::Judgement;
+use common::Refusal;
 
 // Up to so many records have little room, and none for hints; up to so many some, and up to so many more.
 const FEW: usize = 32;
@@ -14,7 +14,7 @@ const SOME: usize = 256;
 const MANY: usize = 2048;
 
 // The second pass over a bundle of so many records, in room for them.
-pub fn second_pass(bundle: &[u8], records: usize) -> Judgement
+pub fn second_pass(bundle: &[u8], records: usize) -> Result<usize, Refusal>
     ensures { result ≡ second_tells bundle.now }
 {
     if records <= FEW {
@@ -30,7 +30,7 @@ pub fn second_pass(bundle: &[u8], records: usize) -> Judgement
 }
 
 // One function a size: the length of an array is part of its type, and the arrays of one function would each take stack of their own.
-fn with_little(bundle: &[u8]) -> Judgement
+fn with_little(bundle: &[u8]) -> Result<usize, Refusal>
     ensures { result ≡ second_tells bundle.now }
 {
     let mut heads = [0u8; 67];
@@ -39,7 +39,7 @@ fn with_little(bundle: &[u8]) -> Judgement
     super::passes::second_pass(bundle, &mut heads, &mut lows, &mut hints)
 }
 
-fn with_some(bundle: &[u8]) -> Judgement
+fn with_some(bundle: &[u8]) -> Result<usize, Refusal>
     ensures { result ≡ second_tells bundle.now }
 {
     let mut heads = [0u8; 521];
@@ -48,7 +48,7 @@ fn with_some(bundle: &[u8]) -> Judgement
     noted(bundle, &mut heads, &mut lows, &mut hints)
 }
 
-fn with_more(bundle: &[u8]) -> Judgement
+fn with_more(bundle: &[u8]) -> Result<usize, Refusal>
     ensures { result ≡ second_tells bundle.now }
 {
     let mut heads = [0u8; 4099];
@@ -57,7 +57,7 @@ fn with_more(bundle: &[u8]) -> Judgement
     noted(bundle, &mut heads, &mut lows, &mut hints)
 }
 
-fn with_much(bundle: &[u8]) -> Judgement
+fn with_much(bundle: &[u8]) -> Result<usize, Refusal>
     ensures { result ≡ second_tells bundle.now }
 {
     let mut heads = [0u8; 26003];
@@ -67,7 +67,12 @@ fn with_much(bundle: &[u8]) -> Judgement
 }
 
 // The second pass, once it is noted where each record stands.
-fn noted(bundle: &[u8], heads: &mut [u8], lows: &mut [u16], hints: &mut [u32]) -> Judgement
+fn noted(
+    bundle: &[u8],
+    heads: &mut [u8],
+    lows: &mut [u16],
+    hints: &mut [u32],
+) -> Result<usize, Refusal>
     requires { Hinted bundle.now hints.old }
     ensures { result ≡ second_tells bundle.now }
 {

@@ -1,25 +1,31 @@
 -- Laws of an order of checks, and what its first fault means.
 -- Assumes nothing.
 use Rattle.std.proofs.Common.{◌≡◌, ℕ, zero, suc, ◌+◌, ◌<◌, ◌≤◌, Bool, true, false, cond, eqb, ◌⊎◌, List, [], ◌∷◌, ◌++◌, length, get_or, drop, sym, refl, ap, ◌∙◌, inl, inr, ⊎_elim, suc-le-suc, le_of_suc-le-suc, add-zero, add-one, arith, drop_of_length-le, drop-cons}
+use Rattle.std.specs.Prelude.{Result, Ok, Err}
 use Rattle.common.specs.Lists.{every, any}
 use Rattle.common.specs.Checks.{Finding, clean, fault, refuse, Check, check, unless, first_fault, each_from, AllPass, First, is_among, TellsOf}
 use Rattle.common.specs.declared.Refusal.{Refusal}
 use Rattle.common.proofs.Lists.{every_append}
 use Rattle.common.proofs.Tests.{both_true, either_false}
 
--- AN ANSWER TELLS WHAT WAS FOUND: nothing, and it is that of the work done; or a refusal, and it tells that.
-module _ {A : Type 0} (refused : Refusal → A) where
-  pub by_finding : (f : Finding) (a : A) {x : A} → unless refused f a ≡ x → ((f ≡ clean) × (a ≡ x)) ⊎ ((r : Refusal) × (f ≡ fault r) × (refused r ≡ x))
-  by_finding clean a e = inl (refl, e)
-  by_finding (fault r) a e = inr (r, refl, e)
+-- AN ANSWER TELLS WHAT WAS FOUND: nothing, and it is the value worked out; or a refusal, and it is that.
+pub by_finding : {A : Type 0} (f : Finding) (a : A) {x : Result A Refusal} → unless f a ≡ x
+    → ((f ≡ clean) × (Ok a ≡ x)) ⊎ ((r : Refusal) × (f ≡ fault r) × (Err r ≡ x))
+by_finding clean a e = inl (refl, e)
+by_finding (fault r) a e = inr (r, refl, e)
 
-  -- the other way: a refusal that was made is the answer, if it is what was found
-  pub as_found : {f : Finding} {r x : Refusal} (a : A) → f ≡ fault r → x ≡ r → refused x ≡ unless refused f a
-  as_found a e q = ap refused q ∙ sym (rw e)
+-- the other way: a refusal that was made is the answer, if it is what was found
+pub as_found : {A : Type 0} {f : Finding} {r x : Refusal} (a : A) → f ≡ fault r → x ≡ r → Err x ≡ unless f a
+as_found a e q = ap Err q ∙ sym (rw e)
 
 -- what was found first, or else what is found then
 abbrev pub or_else : Finding → Finding → Finding
-or_else f rest = unless fault f rest
+or_else clean rest = rest
+or_else (fault r) rest = fault r
+
+pub found_either : (f rest : Finding) {x : Finding} → or_else f rest ≡ x → ((f ≡ clean) × (rest ≡ x)) ⊎ ((r : Refusal) × (f ≡ fault r) × (fault r ≡ x))
+found_either clean rest e = inl (refl, e)
+found_either (fault r) rest e = inr (r, refl, e)
 
 -- one list of checks after another
 pub fault_append : (a b : List Check) → first_fault (a ++ b) ≡ or_else (first_fault a) (first_fault b)
@@ -106,7 +112,7 @@ unfolding first_fault
 clean_one b k p d cs e f = rw e f
 
 pub append_clean : (a b : List Check) → first_fault (a ++ b) ≡ clean → (first_fault a ≡ clean) × (first_fault b ≡ clean)
-append_clean a b e = ⊎_elim (λ h. h) (λ h. (cc, cc)) (by_finding fault (first_fault a) (first_fault b) (sym (fault_append a b) ∙ e))
+append_clean a b e = ⊎_elim (λ h. h) (λ h. (cc, cc)) (found_either (first_fault a) (first_fault b) (sym (fault_append a b) ∙ e))
 
 pub clean_append : (a b : List Check) → first_fault a ≡ clean → first_fault b ≡ clean → first_fault (a ++ b) ≡ clean
 clean_append a b e f = fault_append a b ∙ rw e f
@@ -122,7 +128,7 @@ unfolding first_fault
 one_fault b k p d cs e = fault_cond b e
 
 pub append_fault : (a b : List Check) {r : Refusal} → first_fault (a ++ b) ≡ fault r → (first_fault a ≡ fault r) ⊎ ((first_fault a ≡ clean) × (first_fault b ≡ fault r))
-append_fault a b e = ⊎_elim (λ h. inr h) (λ h. inl (h.1 ∙ h.2)) (by_finding fault (first_fault a) (first_fault b) (sym (fault_append a b) ∙ e))
+append_fault a b e = ⊎_elim (λ h. inr h) (λ h. inl (h.1 ∙ h.2)) (found_either (first_fault a) (first_fault b) (sym (fault_append a b) ∙ e))
 
 pub no_fault : {A : Type 0} {f : Finding} {r : Refusal} → f ≡ clean → f ≡ fault r → A
 no_fault e h = let z : ◌≡◌ {A = ℕ} 0 1 = cc in absurd (omega arith)
@@ -174,7 +180,7 @@ module _ {A : Type 0} (f : ℕ → A → List Check) (d : A) where
   each_fault i (x ∷ xs) r e =
       ⊎_elim (λ h. first_later x h.0 (each_fault (i + 1) xs r h.1))
       (λ h. record { at = 0; inside = omega arith; fails = rw add-zero (h.1 ∙ h.2); earlier_clean = λ m l. absurd (omega arith) })
-      (by_finding fault (first_fault (f i x)) (first_fault (each_from (i + 1) f xs)) (sym (fault_append (f i x) (each_from (i + 1) f xs)) ∙ e))
+      (found_either (first_fault (f i x)) (first_fault (each_from (i + 1) f xs)) (sym (fault_append (f i x) (each_from (i + 1) f xs)) ∙ e))
 
   pub fault_each : (i : ℕ) (xs : List A) (r : Refusal) → FirstAt i xs r → first_fault (each_from i f xs) ≡ fault r
   unfolding each_from

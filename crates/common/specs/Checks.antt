@@ -1,6 +1,6 @@
 -- An order of checks, and the first of them that fails.
 -- Assumes nothing.
-use Rattle.std.specs.Prelude.{◌≡◌, ℕ, ◌+◌, Bool, true, false, cond, List, [], ◌∷◌, ◌++◌, nat_eq}
+use Rattle.std.specs.Prelude.{◌≡◌, ℕ, ◌+◌, Bool, true, false, cond, List, [], ◌∷◌, ◌++◌, nat_eq, Result, Ok, Err}
 use Rattle.common.specs.Lists.{every, any}
 use Rattle.common.specs.declared.Refusal.{Refusal}
 
@@ -21,10 +21,10 @@ pub record Check : Type 0 where
 abbrev pub check : Bool → ℕ → ℕ → ℕ → Check
 check b k p d = record { fails = b; tells = refuse k p d }
 
--- the answer a, unless something was found: then the refusal, as such answers tell it
-abbrev pub unless : {A : Type 0} → (Refusal → A) → Finding → A → A
-unless refused clean a = a
-unless refused (fault r) a = refused r
+-- the answer a, unless something was found: then the refusal
+abbrev pub unless : {A : Type 0} → Finding → A → Result A Refusal
+unless clean a = Ok a
+unless (fault r) a = Err r
 
 -- the first check of the list that fails
 unfoldable pub first_fault : List Check → Finding

@@ -7,7 +7,6 @@ use native.Mathlib.Omega.{arith}
 use Rattle.common.proofs.Checks.{as_found}
 use Rattle.layout.specs.Rules.{broken_field}
 use Rattle.bundle.specs.Records.{between}
-use Rattle.bundle.specs.declared.Judgement.TheVariants.{Refused}
 use Rattle.bundle.proofs.Here.{Stands, here_start, stands, unknown_there, short_there}
 use Rattle.bundle.proofs.PassLaws.{first_start, first_unknown, first_short, first_end, found_field, field_fault, fields_pass}
 use Rattle.bundle.proofs.passes.first_pass.Goals as goal
@@ -16,10 +15,10 @@ pub loop-at-init : goal.loop-at-init
 loop-at-init c = (here_start _, first_start _)
 
 pub returns-in-Unknown : goal.returns-in-Unknown
-returns-in-Unknown c = as_found Refused _ (c.loop-at.invariant.1 ∙ first_unknown _ _ _ c.loop-at.invariant.0 c.loop-at-test.true (unknown_there _ _ c.step_at-here.ensures c.in-Unknown.is)) c.refuse.ensures
+returns-in-Unknown c = as_found _ (c.loop-at.invariant.1 ∙ first_unknown _ _ _ c.loop-at.invariant.0 c.loop-at-test.true (unknown_there _ _ c.step_at-here.ensures c.in-Unknown.is)) c.refuse.ensures
 
 pub returns-in-Short : goal.returns-in-Short
-returns-in-Short c = as_found Refused _ (c.loop-at.invariant.1 ∙ first_short _ _ _ c.loop-at.invariant.0 c.loop-at-test.true (short_there _ _ c.step_at-here.ensures c.in-Short.is)) c.refuse-in-Short.ensures
+returns-in-Short c = as_found _ (c.loop-at.invariant.1 ∙ first_short _ _ _ c.loop-at.invariant.0 c.loop-at-test.true (short_there _ _ c.step_at-here.ensures c.in-Short.is)) c.refuse-in-Short.ensures
 
 pub slice_bounds-broken_field-count : goal.slice_bounds-broken_field-count
 slice_bounds-broken_field-count c =
@@ -44,7 +43,7 @@ returns-then-field-ne0 c =
     let bundle-of : List ℕ = c.args.bundle.now in
     let found : Stands (bundle-of) c.loop-at.at c.loop-at.i c.in-Whole.table c.in-Whole.start c.in-Whole.next = stands _ _ _ c.loop-at.invariant.0 c.step_at-here.ensures c.in-Whole.is in
     let broken : c.broken_field-field.result ≡ broken_field c.in-Whole.table (between c.in-Whole.start c.in-Whole.next (bundle-of)) = found_field _ _ c.all-rows.ensures c.of_table.ensures c.broken_field-field.ensures in
-    as_found Refused _ (c.loop-at.invariant.1 ∙ field_fault _ _ _ c.loop-at.invariant.0 (found) (broken) c.if-field-ne0.true) c.refuse-then-field-ne0.ensures
+    as_found _ (c.loop-at.invariant.1 ∙ field_fault _ _ _ c.loop-at.invariant.0 (found) (broken) c.if-field-ne0.true) c.refuse-then-field-ne0.ensures
 
 pub overflow_add-i : goal.overflow_add-i
 overflow_add-i c =

@@ -18,7 +18,6 @@ use Rattle.bundle.specs.Keys.{clash, other_transferor, earlier_of}
 use Rattle.bundle.specs.Links.{link_rows, no_link}
 use Rattle.bundle.specs.declared.links.Link.{Link}
 use Rattle.bundle.specs.Apart.{Kept}
-use Rattle.bundle.specs.declared.Judgement.TheVariants.{Refused}
 use Rattle.bundle.proofs.Here.{Stands, here_start, stands, over_there, over_nil, over_count}
 use Rattle.bundle.proofs.PassLaws.{second_start, second_end, other_fault, key_fault, link_fault, record_passes, compared}
 use Rattle.bundle.proofs.passes.second_pass.Goals as goal
@@ -142,7 +141,7 @@ returns-then-not-same_bytes c =
     let lent : Rec = rec c.in-Whole.table (between c.in-Whole.start c.in-Whole.next (bundle-of)) in
     let found : Stands (bundle-of) c.records.at c.records.i c.in-Whole.table c.in-Whole.start c.in-Whole.next = stands _ _ _ c.records.invariant.0 c.step_at-here.ensures c.in-Whole.is in
     let transferor : other_transferor (records_of (bundle-of)) (lent) ≡ not c.same_bytes.result = compared (records_of (bundle-of)) (lent) c.same_bytes.ensures c.transferor.ensures c.first_transferor-transferor.ensures in
-    as_found Refused _ (c.records.invariant.1 ∙ other_fault _ c.records.i (lent) found.cons (transferor ∙ c.if-not-same_bytes.true-raw)) c.refuse.ensures
+    as_found _ (c.records.invariant.1 ∙ other_fault _ c.records.i (lent) found.cons (transferor ∙ c.if-not-same_bytes.true-raw)) c.refuse.ensures
 
 -- fewer than i records cannot be all
 pub returns-in_default-there : goal.returns-in_default-there
@@ -169,7 +168,7 @@ returns-then-clashes c =
     let R = records_of (bundle-of) in
     let e : earlier_of R c.records.i (lent) ≡ c.loop-j.j = hit _ c.loop-j.j c.records.i c.loop-j.invariant.2 (sym (clashing) ∙ c.if-clashes.true) c.loop-j-test.true in
     let q = key_fault R c.records.i (lent) found.cons (same_transferor) (rw e c.loop-j-test.true) in
-    as_found Refused _ (c.records.invariant.1 ∙ q) (c.refuse-then-clashes.ensures ∙ rw e)
+    as_found _ (c.records.invariant.1 ∙ q) (c.refuse-then-clashes.ensures ∙ rw e)
 
 pub shape_of-hints-then-k-lt-LINKS : goal.shape_of-hints-then-k-lt-LINKS
 shape_of-hints-then-k-lt-LINKS c =
@@ -186,4 +185,4 @@ returns-then-k-lt-LINKS c =
     rw e at c.loop-j.invariant.2 in
     let same_transferor : other_transferor (records_of (bundle-of)) (lent) ≡ false = transferor ∙ c.if-not-same_bytes.false-raw in
     let q = link_fault _ c.records.i (lent) found.cons (same_transferor) (omega (arith, apart)) (rw c.missing_link-k.ensures.0 at c.if-k-lt-LINKS.true) in
-    as_found Refused _ (c.records.invariant.1 ∙ q) (c.refuse-then-k-lt-LINKS.ensures ∙ ap (λ (l : Link). refuse 7 c.records.i l.detail) (c.link_at-link.ensures ∙ ap (λ j. get_or link_rows j no_link) c.missing_link-k.ensures.0))
+    as_found _ (c.records.invariant.1 ∙ q) (c.refuse-then-k-lt-LINKS.ensures ∙ ap (λ (l : Link). refuse 7 c.records.i l.detail) (c.link_at-link.ensures ∙ ap (λ j. get_or link_rows j no_link) c.missing_link-k.ensures.0))
