@@ -7,6 +7,7 @@ use mathlib.Core.List.{List, map}
 use native.Mathlib.Nat.{le_trans}
 use native.Mathlib.Omega.{arith}
 use lib.ListN.{length, get_or, take}
+use Rattle.std.specs.Prelude.{Ok, Err}
 use Rattle.common.specs.Lists.{sum}
 use Rattle.common.specs.Checks.{first_fault}
 use Rattle.common.specs.declared.Refusal.{Refusal}
@@ -15,12 +16,11 @@ use Rattle.common.proofs.Checks.{fault_append}
 use Rattle.common.proofs.Sums.{sum_small}
 use Rattle.bundle.specs.Records.{Rec, records_of}
 use Rattle.bundle.specs.Verdict.{checks, verdict_of}
-use Rattle.bundle.specs.declared.Judgement.TheVariants as verdict
 use Rattle.bundle.proofs.PassLaws.{is_fault, is_clean_lem}
 use Rattle.fares.specs.Question.{no_leg, legs_of, cards_of, in_limits}
 use Rattle.fares.specs.Reductions.{part_bound, greatest_part}
 use Rattle.fares.specs.Legs.{part_of}
-use Rattle.fares.specs.Fare.{price_checks, fare_checks, no_fare, fare_of}
+use Rattle.fares.specs.Fare.{price_checks, fare_checks, fare_of}
 use Rattle.fares.specs.Helpers.{price_of}
 use Rattle.fares.specs.declared.Question.{Question}
 use Rattle.fares.proofs.QuestionLimits.{limits_mean}
@@ -53,13 +53,13 @@ module _ (R : List Rec) (q : Question) (a : Asked q) where
 
 -- the verdict comes first
 module _ (s : List ℕ) (q : Question) where
-  pub verdict_first : (r : Refusal) → verdict_of s ≡ verdict.Refused r → fare_of s q ≡ no_fare r
+  pub verdict_first : (r : Refusal) → verdict_of s ≡ Err r → fare_of s q ≡ Err r
   unfolding fare_of fare_checks verdict_of
   verdict_first r e =
       let f = is_fault (first_fault (checks s)) (length (records_of s)) r e in
       rw (fault_append (checks s) (price_checks (records_of s) q), f)
 
-  pub then_the_price : (n : ℕ) → verdict_of s ≡ verdict.Accepted n → fare_of s q ≡ price_of (records_of s) q
+  pub then_the_price : (n : ℕ) → verdict_of s ≡ Ok n → fare_of s q ≡ price_of (records_of s) q
   unfolding fare_of fare_checks verdict_of price_of
   then_the_price n e =
       let f = (is_clean_lem (first_fault (checks s)) (length (records_of s)) n e).0 in

@@ -11,6 +11,7 @@ use native.Mathlib.Omega.{arith}
 use lib.ListN.{length, get_or, replicate, length-map, length-append, length-replicate, get_or-append}
 use lib.Seq.{ext_get_or}
 use borrow.Author.Tests.{not-true, not-false}
+use Rattle.std.specs.Prelude.{Ok, Err}
 use Rattle.common.specs.Lists.{sum}
 use Rattle.common.specs.Checks.{refuse, clean, fault, Check, check, first_fault, each_from}
 use Rattle.common.specs.declared.Refusal.{Refusal}
@@ -29,11 +30,10 @@ use Rattle.bundle.proofs.Faults.{fault_means, means_fault}
 use Rattle.fares.specs.Question.{no_leg, legs_of, card_slots, cards_of, cards_differ, in_limits}
 use Rattle.fares.specs.Reductions.{part_bound}
 use Rattle.fares.specs.Legs.{leg_checks, part_of}
-use Rattle.fares.specs.Fare.{parts_of, price_checks, fare_checks, no_fare, priced, fare_of}
+use Rattle.fares.specs.Fare.{parts_of, price_checks, fare_checks, quote, priced, fare_of}
 use Rattle.fares.specs.Meaning.{leg_at, InLimits, CardsDiffer, LegFare, IsFare, NoFare, faulty, outside_limits, card_twice, at_leg}
 use Rattle.fares.specs.declared.Question.{Question}
 use Rattle.fares.specs.declared.Quote.{Quote}
-use Rattle.fares.specs.declared.Pricing.TheVariants.{Priced}
 use Rattle.fares.proofs.LegLaws.{leg_small}
 use Rattle.fares.proofs.CardSlots.{differ_means, means_differ}
 use Rattle.fares.proofs.QuestionLimits.{limits_mean, means_limits}
@@ -95,13 +95,13 @@ module _ (s : List ℕ) (q : Question) where
   leg_faults = each_from 0 (leg_checks R q) (legs_of q)
 
   -- A FARE IS ANSWERED where nothing fails,
-  answered : {fare : ℕ} {parts : List ℕ} → fare_of s q ≡ record { outcome = Priced; fare = fare; parts = parts }
+  answered : {fare : ℕ} {parts : List ℕ} → fare_of s q ≡ Ok (quote fare parts)
       → (first_fault (fare_checks s q) ≡ clean) × (fare ≡ sum (parts_of R q)) × (parts ≡ parts_of R q)
   unfolding fare_of
-  answered e =
-      ⊎_elim (λ h. (h.0, sym (ap (λ (x : Quote). x.fare) h.1), sym (ap (λ (x : Quote). x.parts) h.1)))
-      (λ h. let o = ap (λ (x : Quote). x.outcome) h.2 in let z : ◌≡◌ {A = ℕ} 0 1 = cc in absurd (omega arith))
-      (by_finding no_fare (first_fault (fare_checks s q)) (priced (parts_of R q)) e)
+  answered {fare} {parts} e =
+      ⊎_elim
+      (λ h. let x : priced (parts_of R q) ≡ quote fare parts = cc in (h.0, sym (ap (λ (x : Quote). x.fare) x), sym (ap (λ (x : Quote). x.parts) x)))
+      (λ h. cc) (by_finding (first_fault (fare_checks s q)) (priced (parts_of R q)) e)
 
   module _ (c : first_fault (fare_checks s q) ≡ clean) where
     passes : (first_fault (checks s) ≡ clean) × (first_fault (price_checks R q) ≡ clean)
@@ -123,7 +123,7 @@ module _ (s : List ℕ) (q : Question) where
         (⊎_elim (λ h. h.1) (λ h. no_fault f h.2) (leg_means s R (clean_good passes.0) q (leg_at q k) (0 + k) (differ_means q within_limits.1)))
 
   -- with what it means,
-  pub fare_means : (fare : ℕ) (parts : List ℕ) → fare_of s q ≡ record { outcome = Priced; fare = fare; parts = parts } → IsFare s R q fare parts
+  pub fare_means : (fare : ℕ) (parts : List ℕ) → fare_of s q ≡ Ok (quote fare parts) → IsFare s R q fare parts
   fare_means fare parts e =
       let a = answered e in
       let l = limits_mean q (within_limits a.0).0 in
@@ -138,12 +138,11 @@ module _ (s : List ℕ) (q : Question) where
       })
 
   -- and is refused by the first check that fails,
-  refused : (why : Refusal) → fare_of s q ≡ no_fare why → first_fault (fare_checks s q) ≡ fault why
+  refused : (why : Refusal) → fare_of s q ≡ Err why → first_fault (fare_checks s q) ≡ fault why
   unfolding fare_of
   refused why e =
-      ⊎_elim (λ h. let o = ap (λ (x : Quote). x.outcome) h.1 in let z : ◌≡◌ {A = ℕ} 0 1 = cc in absurd (omega arith))
-      (λ h. let o = ap (λ (x : Quote). x.outcome) h.2 in let i : h.0 ≡ why = cc in h.1 ∙ ap fault i)
-      (by_finding no_fare (first_fault (fare_checks s q)) (priced (parts_of R q)) e)
+      ⊎_elim (λ h. cc) (λ h. let i : h.0 ≡ why = cc in h.1 ∙ ap fault i)
+      (by_finding (first_fault (fare_checks s q)) (priced (parts_of R q)) e)
 
   abbrev Told : Refusal → Type 0
   Told why = NoFare s R (rest_of s) q why.number why.place why.detail
@@ -181,17 +180,17 @@ module _ (s : List ℕ) (q : Question) where
       (one_fault (not (in_limits q)) 11 0 0 (cards ∷ leg_faults) e)
 
   -- with what that means;
-  pub no_fare_means : (why : Refusal) → fare_of s q ≡ no_fare why → Told why
+  pub no_fare_means : (why : Refusal) → fare_of s q ≡ Err why → Told why
   unfolding fare_checks
   no_fare_means why e =
       ⊎_elim (λ f. faulty (fault_means s why f)) (λ f. by_price (clean_good f.0) why f.1) (append_fault (checks s) (price_checks R q) (refused why e))
 
   -- AND BACK
-  clean_priced : first_fault (fare_checks s q) ≡ clean → fare_of s q ≡ priced (parts_of R q)
+  clean_priced : first_fault (fare_checks s q) ≡ clean → fare_of s q ≡ Ok (priced (parts_of R q))
   unfolding fare_of
   clean_priced c = rw c
 
-  fault_refused : (why : Refusal) → first_fault (fare_checks s q) ≡ fault why → fare_of s q ≡ no_fare why
+  fault_refused : (why : Refusal) → first_fault (fare_checks s q) ≡ fault why → fare_of s q ≡ Err why
   unfolding fare_of
   fault_refused why c = rw c
 
@@ -207,19 +206,19 @@ module _ (s : List ℕ) (q : Question) where
       (clean_one (not (cards_differ (card_slots q))) 17 0 0 leg_faults (rw (means_differ q d))
       (clean_each (leg_checks R q) no_leg 0 (legs_of q) (λ k m. legs_clean g d q.count (omega arith) h k (omega (arith, as_many R q))))))
 
-  answered_by : (fare : ℕ) (parts : List ℕ) → IsFare s R q fare parts → fare_of s q ≡ record { outcome = Priced; fare = fare; parts = parts }
+  answered_by : (fare : ℕ) (parts : List ℕ) → IsFare s R q fare parts → fare_of s q ≡ Ok (quote fare parts)
   answered_by fare parts f =
       let c = all_clean f.good f.within_limits f.cards_apart (λ k l. (get_or parts k 0, f.leg_by_leg k l)) in
       let eight = eight_parts R q f.within_limits.count.1 in
       let same : parts ≡ parts_of R q = ext_get_or 0 parts (parts_of R q) (f.eight ∙ sym eight) (λ k l. part_alike f k) in
-      clean_priced c ∙ (λ j. record { outcome = Priced; fare = sym (f.summed ∙ ap sum same) j; parts = sym same j })
+      clean_priced c ∙ (λ j. Ok (quote (sym (f.summed ∙ ap sum same) j) (sym same j)))
     where
       part_alike : IsFare s R q fare parts → (k : ℕ) → get_or parts k 0 ≡ get_or (parts_of R q) k 0
       part_alike f k =
           ⊎_elim (λ l. (means_priced s R f.good q (leg_at q k) k f.cards_apart _ (f.leg_by_leg k l)).1 ∙ sym (part_of_leg R q k l))
           (λ l. f.none_beyond k l ∙ sym (none_beyond R q k l)) (side k q.count)
 
-  refused_by : (n p d : ℕ) → NoFare s R (rest_of s) q n p d → fare_of s q ≡ no_fare (refuse n p d)
+  refused_by : (n p d : ℕ) → NoFare s R (rest_of s) q n p d → fare_of s q ≡ Err (refuse n p d)
   unfolding fare_checks price_checks first_fault
   refused_by n p d (faulty f) = fault_refused (refuse n p d) (fault_append (checks s) (price_checks R q) ∙ rw (means_fault s n p d f))
   refused_by n p d (outside_limits g l) =
@@ -241,11 +240,11 @@ module _ (s : List ℕ) (q : Question) where
       })))
 
 pub means_fare : (s : List ℕ) (R : List Rec) (q : Question) (fare : ℕ) (parts : List ℕ) → IsFare s R q fare parts
-    → fare_of s q ≡ record { outcome = Priced; fare = fare; parts = parts }
+    → fare_of s q ≡ Ok (quote fare parts)
 means_fare s R q fare parts f = answered_by s q fare parts (rw (recut s R f.good) f)
 
 pub means_no_fare : (s : List ℕ) (R : List Rec) (rest : List ℕ) → Cut s R rest → (q : Question) (n p d : ℕ) → NoFare s R rest q n p d
-    → fare_of s q ≡ no_fare (refuse n p d)
+    → fare_of s q ≡ Err (refuse n p d)
 means_no_fare s R rest c q n p d f = let e = cut_only s R rest c in refused_by s q n p d (rw (e.0, e.1) f)
 
 -- NO PART of a fare is above the bound, and no fare above eight times the bound

@@ -1,6 +1,6 @@
 -- The fare of a ticket: the checks in their order, the parts and their sum (document 01, 'Pricing' and 'The sales book', its last line).
 -- Assumes nothing.
-use Rattle.std.specs.Prelude.{ℕ, ◌-◌, not, List, ◌∷◌, ◌++◌, map, replicate}
+use Rattle.std.specs.Prelude.{ℕ, ◌-◌, not, List, ◌∷◌, ◌++◌, map, replicate, Result}
 use Rattle.common.specs.Lists.{sum}
 use Rattle.common.specs.Checks.{Finding, Check, check, unless, first_fault, each_from}
 use Rattle.common.specs.declared.Refusal.{Refusal}
@@ -10,7 +10,6 @@ use Rattle.fares.specs.Question.{legs_of, card_slots, cards_differ, in_limits}
 use Rattle.fares.specs.Legs.{leg_checks, part_of}
 use Rattle.fares.specs.declared.Question.{Question}
 use Rattle.fares.specs.declared.Quote.{Quote}
-use Rattle.fares.specs.declared.Pricing.TheVariants.{Priced, Refused}
 
 -- the parts of the legs, zeros after them to eight
 unfoldable pub parts_of : List Rec → Question → List ℕ
@@ -27,16 +26,15 @@ price_checks R q =
 unfoldable pub fare_checks : List ℕ → Question → List Check
 fare_checks s q = checks s ++ price_checks (records_of s) q
 
--- "Every refusal answers with all amounts zero"
-abbrev pub no_fare : Refusal → Quote
-no_fare r = record { outcome = Refused r; fare = 0; parts = replicate 8 0 }
+abbrev pub quote : ℕ → List ℕ → Quote
+quote fare parts = record { fare = fare; parts = parts }
 
 abbrev pub priced : List ℕ → Quote
-priced parts = record { outcome = Priced; fare = sum parts; parts = parts }
+priced parts = quote (sum parts) parts
 
-abbrev pub quoted : Finding → List ℕ → Quote
-quoted f parts = unless no_fare f (priced parts)
+abbrev pub quoted : Finding → List ℕ → Result Quote Refusal
+quoted f parts = unless f (priced parts)
 
 -- THE FARE
-unfoldable pub fare_of : List ℕ → Question → Quote
+unfoldable pub fare_of : List ℕ → Question → Result Quote Refusal
 fare_of s q = quoted (first_fault (fare_checks s q)) (parts_of (records_of s) q)

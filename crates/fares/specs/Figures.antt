@@ -1,17 +1,16 @@
 -- The figures of document 01 that are to be proved, and some beside them, in one list. Fares are asked of the engine itself: what it answers to a question, from a bundle that is written out.
 -- Assumes nothing.
-use Rattle.std.specs.Prelude.{ℕ, ◌-◌, ◌*◌, ◌≡◌, true, false, List, [], ◌∷◌, ◌++◌, replicate}
+use Rattle.std.specs.Prelude.{ℕ, ◌-◌, ◌*◌, ◌≡◌, true, false, List, [], ◌∷◌, ◌++◌, replicate, Ok, Err}
 use Rattle.common.specs.Lists.{first_of}
 use Rattle.common.specs.Checks.{refuse}
 use Rattle.layout.specs.Bytes.{byte_plus, byte_minus, byte_0, byte_N, byte_Y}
 use Rattle.layout.specs.Dates.{is_day}
 use Rattle.fares.specs.Rounding.{unit}
 use Rattle.fares.specs.Reductions.{part_bound, greatest_fare}
-use Rattle.fares.specs.Fare.{no_fare, fare_of}
+use Rattle.fares.specs.Fare.{quote, fare_of}
 use Rattle.bundle.specs.Samples.{period, grant, conditions_in, conditions, named, card_name, card_in, card_with, card}
 use Rattle.fares.specs.Samples.{leg, ticket}
 use Rattle.fares.specs.declared.Question.{Question}
-use Rattle.fares.specs.declared.Pricing.TheVariants.{Priced}
 
 -- a plain fare at a discount is so many hundred-thousandths of a cent; a question has this fare and these parts, by a bundle, or is refused by this number;
 -- a part by so many cards is at most this, eight of them are at most this, and so is any fare; a number YYYYMMDD is a day, or is none
@@ -28,8 +27,8 @@ pub data Figure : Type 0 where
 -- what a figure says
 abbrev pub Says : Figure → Type 0
 Says (exact fare discount amount) = fare * (unit - discount) ≡ amount
-Says (asked bundle q fare parts) = fare_of bundle q ≡ record { outcome = Priced; fare = fare; parts = first_of 0 8 parts }
-Says (turned_away bundle q number) = fare_of bundle q ≡ no_fare (refuse number 0 0)
+Says (asked bundle q fare parts) = fare_of bundle q ≡ Ok (quote fare (first_of 0 8 parts))
+Says (turned_away bundle q number) = fare_of bundle q ≡ Err (refuse number 0 0)
 Says (bound cards cents) = part_bound cards ≡ cents
 Says (eight_parts cards cents) = 8 * part_bound cards ≡ cents
 Says (greatest_fare_figure cents) = greatest_fare ≡ cents

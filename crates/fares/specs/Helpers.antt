@@ -1,8 +1,9 @@
 -- What the code's helpers answer: limits but for cards and legs, places in the bundle in place of numbers of records, and the price of one leg and of an
 -- accepted bundle. Nothing here has to be believed: no promise and no answer of a call is stated with it.
 -- Assumes nothing.
-use Rattle.std.specs.Prelude.{ℕ, ◌-◌, Bool, ◌&&◌, List, ◌++◌, map, leb, length, take, get_or, replicate}
+use Rattle.std.specs.Prelude.{ℕ, ◌-◌, Bool, ◌&&◌, List, ◌++◌, map, leb, length, take, get_or, replicate, Result}
 use Rattle.common.specs.Lists.{only}
+use Rattle.common.specs.declared.Refusal.{Refusal}
 use Rattle.common.specs.Checks.{Finding, unless, first_fault}
 use Rattle.layout.specs.Dates.{is_day}
 use Rattle.layout.specs.declared.fields.Grant.{Grant}
@@ -18,8 +19,6 @@ use Rattle.fares.specs.Fare.{parts_of, price_checks, quoted}
 use Rattle.fares.specs.declared.Leg.{Leg}
 use Rattle.fares.specs.declared.Question.{Question}
 use Rattle.fares.specs.declared.Quote.{Quote}
-use Rattle.fares.specs.declared.legs.Priced.{Priced}
-use Rattle.fares.specs.declared.legs.Priced.TheVariants.{Part, Refused}
 use Rattle.fares.specs.declared.records.Cards.{Cards}
 use Rattle.fares.specs.declared.records.LegRecords.{LegRecords}
 use Rattle.fares.specs.declared.cards.Step.{Step}
@@ -80,15 +79,15 @@ abbrev pub alone_from : ℕ → List (List ℕ) → List ℕ
 alone_from amount ars = map (λ ar. reduce_by amount (card_grants ar)) (only is_alone ars)
 
 -- the answer on one leg, and by the bytes of its CO and of its cards
-abbrev pub answered : Finding → ℕ → Priced
-answered f part = unless Refused f (Part part)
+abbrev pub answered : Finding → ℕ → Result ℕ Refusal
+answered f part = unless f part
 
-unfoldable pub answer_of : List Rec → Question → ℕ → Leg → Priced
+unfoldable pub answer_of : List Rec → Question → ℕ → Leg → Result ℕ Refusal
 answer_of R q k leg = answered (first_fault (leg_checks R q k leg)) (part_of R q leg)
 
-unfoldable pub answer_by : Question → ℕ → Leg → List ℕ → List (List ℕ) → Priced
+unfoldable pub answer_by : Question → ℕ → Leg → List ℕ → List (List ℕ) → Result ℕ Refusal
 answer_by q k leg co cards = answered (first_fault (condition_checks q k co)) (part_by q leg co cards)
 
 -- the fare from the records of an accepted bundle
-unfoldable pub price_of : List Rec → Question → Quote
+unfoldable pub price_of : List Rec → Question → Result Quote Refusal
 price_of R q = quoted (first_fault (price_checks R q)) (parts_of R q)

@@ -1,8 +1,9 @@
 -- THE BASE'S RULE: what a question with one card, or none, was answered before a question could carry several (document 01, 'Pricing'). It is kept to say
 -- that such a question is answered as it was, and it looks at the first slot alone. Which records a leg uses is today's choice (document 02, R-2).
 -- Assumes nothing.
-use Rattle.std.specs.Prelude.{ℕ, ◌-◌, ◌*◌, ◌<◌, ◌≡◌, Bool, cond, not, ◌&&◌, List, [], ◌∷◌, ◌++◌, map, eqb, replicate}
+use Rattle.std.specs.Prelude.{ℕ, ◌-◌, ◌*◌, ◌<◌, ◌≡◌, Bool, cond, not, ◌&&◌, List, [], ◌∷◌, ◌++◌, map, eqb, replicate, Result}
 use Rattle.common.specs.Lists.{every}
+use Rattle.common.specs.declared.Refusal.{Refusal}
 use Rattle.common.specs.Checks.{Check, check, first_fault, each_from}
 use Rattle.layout.specs.Dates.{is_day}
 use Rattle.layout.specs.Layout.{CO, AR}
@@ -57,7 +58,7 @@ base_price R q = check (not (base_in_limits q)) 11 0 0 ∷ each_from 0 (leg_chec
 unfoldable pub base_checks : List ℕ → Question → List Check
 base_checks s q = checks s ++ base_price (records_of s) q
 
-unfoldable pub base_fare : List ℕ → Question → Quote
+unfoldable pub base_fare : List ℕ → Question → Result Quote Refusal
 base_fare s q = quoted (first_fault (base_checks s q)) (base_parts (records_of s) q)
 
 -- "A part is at most 99,197,505 cents"

@@ -9,13 +9,7 @@ use super::records::{Cards, LegRecords};
 use super::reductions::reduce;
 use super::{Leg, Question};
 use choice::Choice;
-
-// A leg's part of the fare, or why it is refused.
-#[derive(Clone, Copy)]
-pub enum Priced {
-    Part(u32),
-    Refused(common::Refusal),
-}
+use common::Refusal;
 
 // The conditions that the engine does not read, by their fields.
 const UNREAD: [u32; 5] = [27, 31, 32, 34, 35];
@@ -49,7 +43,7 @@ fn persons_fit(co: &[u8], persons: u32) -> bool
     persons <= most
 }
 
-// The leg by its CO and its cards: 14, then 15, then its part.
+// Its part of the fare by its CO and its cards: 14, then 15, then the part.
 fn price_by<'a>(
     bundle: &'a [u8],
     q: Question,
@@ -57,33 +51,39 @@ fn price_by<'a>(
     leg: Leg,
     co: &'a [u8],
     cards: Cards,
-) -> Priced
+) -> Result<u32, Refusal>
     requires { (leg.fare ≤ 999999) × (q.persons ≤ 99) × (cards.count ≤ 4) }
     ensures { result ≡ answer_by q k leg co.now (bodies_at bundle.now (places_in cards)) }
 {
     let persons = q.persons;
     if !persons_fit(co, persons) {
-        return Priced::Refused(common::refuse(14, k, 0));
+        return Err(common::refuse(14, k, 0));
     }
     let unread = first_unread(co);
     if unread != 0 {
-        return Priced::Refused(common::refuse(15, k, unread as usize));
+        return Err(common::refuse(15, k, unread as usize));
     }
     let reduced = reduce(leg.fare as u64, layout::fields::conditions_grant(co));
     let amount = after_cards(bundle, cards, reduced);
-    Priced::Part((amount * (persons as u64)) as u32)
+    Ok((amount * (persons as u64)) as u32)
 }
 
 // Leg k from its records: 12, then 13, then as they say.
-fn price_from(bundle: &[u8], q: Question, k: usize, leg: Leg, records: LegRecords) -> Priced
+fn price_from(
+    bundle: &[u8],
+    q: Question,
+    k: usize,
+    leg: Leg,
+    records: LegRecords,
+) -> Result<u32, Refusal>
     requires { (leg.fare ≤ 999999) × (q.persons ≤ 99) × (records ≡ placed bundle.now q leg) }
     ensures { result ≡ answer_of (records_of bundle.now) q k leg }
 {
     let conditions = records.conditions;
     let cards = records.cards;
     match conditions {
-        Choice::Nothing => Priced::Refused(common::refuse(12, k, 0)),
-        Choice::NotThatDay => Priced::Refused(common::refuse(13, k, 0)),
+        Choice::Nothing => Err(common::refuse(12, k, 0)),
+        Choice::NotThatDay => Err(common::refuse(13, k, 0)),
         Choice::At(place) => price_by(
             bundle,
             q,
@@ -96,7 +96,7 @@ fn price_from(bundle: &[u8], q: Question, k: usize, leg: Leg, records: LegRecord
 }
 
 // Leg k: first its records are chosen, then it is priced from them.
-pub fn price_leg(bundle: &[u8], q: Question, k: usize, leg: Leg) -> Priced
+pub fn price_leg(bundle: &[u8], q: Question, k: usize, leg: Leg) -> Result<u32, Refusal>
     requires { (leg.fare ≤ 999999) × (q.persons ≤ 99) }
     ensures { result ≡ answer_of (records_of bundle.now) q k leg }
 {

@@ -3,7 +3,7 @@
 
 ghost use Rattle.std.specs.Prelude.{◌≡◌};
 ghost use Rattle.bundle.specs.Records.{records_of};
-ghost use Rattle.fares.specs.Fare.{no_fare, fare_of};
+ghost use Rattle.fares.specs.Fare.{fare_of};
 ghost use Rattle.fares.specs.Helpers.{price_of};
 
 mod cards;
@@ -12,6 +12,8 @@ pub mod limits;
 mod records;
 mod reductions;
 mod rounding;
+
+use common::Refusal;
 
 // A leg: its railway, and the plain fare per person in cents.
 #[repr(C)]
@@ -33,75 +35,39 @@ pub struct Question {
     pub legs: [Leg; 8],
 }
 
-// Whether a fare was found, or why not.
-#[derive(Clone, Copy)]
-pub enum Pricing {
-    Priced,
-    Refused(common::Refusal),
-}
-
-// The parts of the legs in cents, zeros after them, and the fare as their sum; all zero where it is refused.
+// The parts of the legs in cents, zeros after them, and the fare as their sum.
 #[derive(Clone, Copy)]
 pub struct Quote {
-    pub outcome: Pricing,
     pub fare: u64,
     pub parts: [u32; 8],
 }
 
-fn refused(why: common::Refusal) -> Quote
-    ensures { result ≡ no_fare why }
-{
-    Quote {
-        outcome: Pricing::Refused(why),
-        fare: 0,
-        parts: [0; 8],
-    }
-}
-
 // The fare from a bundle that was accepted.
-fn price(bundle: &[u8], q: Question) -> Quote
+fn price(bundle: &[u8], q: Question) -> Result<Quote, Refusal>
     ensures { result ≡ price_of (records_of bundle.now) q }
 {
     if !limits::in_limits(q) {
-        return refused(common::refuse(11, 0, 0));
+        return Err(common::refuse(11, 0, 0));
     }
     let cards = q.cards;
     if !limits::cards_differ(cards) {
-        return refused(common::refuse(17, 0, 0));
+        return Err(common::refuse(17, 0, 0));
     }
     let legs = q.legs;
-    let count = q.count as usize;
     let mut parts = [0u32; 8];
     let mut fare: u64 = 0;
-    let mut k = 0;
-    while k < count {
-        let leg = legs[k];
-        let answer = legs::price_leg(bundle, q, k, leg);
-        match answer {
-            legs::Priced::Refused(why) => {
-                return refused(why);
-            }
-            legs::Priced::Part(part) => {
-                parts[k] = part;
-                fare += part as u64;
-                k += 1;
-            }
-        }
+    for k in 0..q.count as usize {
+        let part = legs::price_leg(bundle, q, k, legs[k])?;
+        parts[k] = part;
+        fare += part as u64;
     }
-    Quote {
-        outcome: Pricing::Priced,
-        fare,
-        parts,
-    }
+    Ok(Quote { fare, parts })
 }
 
 // The fare of a ticket: the bundle's verdict, the question's limits, the legs from the first.
-pub fn fare(bundle: &[u8], q: Question) -> Quote
+pub fn fare(bundle: &[u8], q: Question) -> Result<Quote, Refusal>
     ensures { result ≡ fare_of bundle.now q }
 {
-    let judged = bundle::verdict(bundle);
-    match judged {
-        bundle::Judgement::Refused(why) => refused(why),
-        bundle::Judgement::Accepted(_) => price(bundle, q),
-    }
+    bundle::verdict(bundle)?;
+    price(bundle, q)
 }

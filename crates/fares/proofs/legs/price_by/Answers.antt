@@ -6,26 +6,26 @@ use mathlib.Core.Path.{◌≡◌, ◌∙◌, ap}
 use native.Mathlib.Omega.{arith}
 use lib.ListN.{length-map, length-take}
 use borrow.Author.Tests.{eq-eqb, ne_eqb}
+use Rattle.std.specs.Prelude.{Ok, Err}
 use Rattle.common.specs.Checks.{first_fault}
 use Rattle.common.proofs.Tests.{fails, holds}
 use Rattle.bundle.specs.Helpers.{body_at}
 use Rattle.fares.specs.Reductions.{greatest_part}
 use Rattle.fares.specs.Legs.{persons_fit, part_by}
 use Rattle.fares.specs.Helpers.{places_in, bodies_at, answer_by}
-use Rattle.fares.specs.declared.legs.Priced.TheVariants.{Part, Refused}
 use Rattle.fares.proofs.StepLaws.{conditions_small, step_small}
 use Rattle.fares.proofs.LegLaws.{by_small}
 use Rattle.fares.proofs.legs.price_by.Goals as goal
 
 pub returns-then-not-persons_fit : goal.returns-then-not-persons_fit
 unfolding answer_by first_fault
-returns-then-not-persons_fit c = ap Refused c.refuse.ensures ∙ rw (fails c.persons_fit.result c.if-not-persons_fit.true-raw c.persons_fit.ensures)
+returns-then-not-persons_fit c = ap Err c.refuse.ensures ∙ rw (fails c.persons_fit.result c.if-not-persons_fit.true-raw c.persons_fit.ensures)
 
 pub returns-then-unread-ne0 : goal.returns-then-unread-ne0
 unfolding answer_by first_fault
 returns-then-unread-ne0 c =
     let fit : persons_fit c.args.co.now c.args.q.persons ≡ true = holds c.persons_fit.result c.if-not-persons_fit.false-raw c.persons_fit.ensures in
-    ap Refused c.refuse-then-unread-ne0.ensures ∙ rw (fit, ← c.first_unread-unread.ensures, ne_eqb _ _ c.if-unread-ne0.true)
+    ap Err c.refuse-then-unread-ne0.ensures ∙ rw (fit, ← c.first_unread-unread.ensures, ne_eqb _ _ c.if-unread-ne0.true)
 
 pub reduce-reduced-requires : goal.reduce-reduced-requires
 unfolding answer_by first_fault
@@ -63,4 +63,4 @@ unfolding answer_by first_fault part_by
 returns c =
     let part : let a = c.args in c.after_cards-amount.result * a.q.persons ≡ part_by a.q a.leg a.co.now (bodies_at a.bundle.now (places_in a.cards)) = rw (← c.conditions_grant.ensures, ← c.reduce-reduced.ensures, ← c.after_cards-amount.ensures) in
     let fit : persons_fit c.args.co.now c.args.q.persons ≡ true = holds c.persons_fit.result c.if-not-persons_fit.false-raw c.persons_fit.ensures in
-    rw (fit, ← c.first_unread-unread.ensures, eq-eqb _ _ c.if-unread-ne0.false) (ap Part (part))
+    rw (fit, ← c.first_unread-unread.ensures, eq-eqb _ _ c.if-unread-ne0.false) (ap Ok (part))

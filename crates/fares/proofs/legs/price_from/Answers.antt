@@ -11,7 +11,6 @@ use Rattle.choice.specs.Helpers.{at_place}
 use Rattle.choice.proofs.WalkLaws.{chosen_at}
 use Rattle.fares.specs.Legs.{wanted_for, conditions_for, body_of, applied_for}
 use Rattle.fares.specs.Helpers.{place_of, cards_by, placed, answer_of}
-use Rattle.fares.specs.declared.legs.Priced.TheVariants.{Refused}
 use Rattle.fares.specs.declared.records.Cards.{Cards}
 use Rattle.fares.specs.declared.records.LegRecords.{LegRecords}
 use Rattle.fares.proofs.LegLaws.{applied_four, no_conditions, off_day, by_places}
@@ -31,13 +30,13 @@ pub returns-in-Nothing : goal.returns-in-Nothing
 unfolding answer_of placed
 returns-in-Nothing c =
     let conditions : let a = c.args in a.records.conditions ≡ at_place a.bundle.now (conditions_for (records_of a.bundle.now) a.q a.leg) = ap (λ (r : LegRecords). r.conditions) c.requires.2 in
-    let a = c.args in as_found Refused _ (no_conditions _ a.q a.leg _ (sym (conditions) ∙ c.in-Nothing.is)) c.refuse.ensures
+    let a = c.args in as_found _ (no_conditions _ a.q a.leg _ (sym (conditions) ∙ c.in-Nothing.is)) c.refuse.ensures
 
 pub returns-in-NotThatDay : goal.returns-in-NotThatDay
 unfolding answer_of placed
 returns-in-NotThatDay c =
     let conditions : let a = c.args in a.records.conditions ≡ at_place a.bundle.now (conditions_for (records_of a.bundle.now) a.q a.leg) = ap (λ (r : LegRecords). r.conditions) c.requires.2 in
-    let a = c.args in as_found Refused _ (off_day _ a.q a.leg _ (sym (conditions) ∙ c.in-NotThatDay.is)) c.refuse-in-NotThatDay.ensures
+    let a = c.args in as_found _ (off_day _ a.q a.leg _ (sym (conditions) ∙ c.in-NotThatDay.is)) c.refuse-in-NotThatDay.ensures
 
 pub returns-in-At : goal.returns-in-At
 unfolding placed
