@@ -26,7 +26,7 @@ use Rattle.book.specs.Due.{carried_by, any_leg}
 use Rattle.sales.specs.Sales.{sale_words, cancel_words}
 use Rattle.sales.specs.History.{Number, Op, sale, cancel, empty_book, after, cancelled_in, books, booked_by, owed}
 use Rattle.sales.specs.Balances.{balance_answer, total_answer}
-use Rattle.sales.specs.declared.Sum.TheVariants.{Amount}
+use Rattle.std.specs.Prelude.{Ok}
 use Rattle.book.proofs.EntryWords.{cancelled_entry}
 use Rattle.book.proofs.SoundBook.{IsSound, sound_is}
 use Rattle.book.proofs.StaysSound.{cancelling}
@@ -170,10 +170,10 @@ balance_is_owed c ops = rw empty_entries at (told_so_far c ops empty_book empty_
 
 -- DEMAND 3. Each railway is told what is owed to it, and the total is what is owed to all.
 pub balance_told : (ops : List Op) (railway : ℕ) → 1 ≤ railway → railway ≤ 9999
-    → balance_answer (after empty_book ops) railway ≡ Amount (owed (carried_by railway) [] ops)
+    → balance_answer (after empty_book ops) railway ≡ Ok (owed (carried_by railway) [] ops)
 unfolding balance_answer first_fault is_railway
-balance_told ops railway a b = rw (always_sound ops, le-leb 1 railway a, le-leb railway 9999 b) (ap Amount (balance_is_owed (counts_railway railway) ops))
+balance_told ops railway a b = rw (always_sound ops, le-leb 1 railway a, le-leb railway 9999 b) (ap Ok (balance_is_owed (counts_railway railway) ops))
 
-pub total_told : (ops : List Op) → total_answer (after empty_book ops) ≡ Amount (owed any_leg [] ops)
+pub total_told : (ops : List Op) → total_answer (after empty_book ops) ≡ Ok (owed any_leg [] ops)
 unfolding total_answer first_fault
-total_told ops = rw (always_sound ops) (ap Amount (balance_is_owed counts_all ops))
+total_told ops = rw (always_sound ops) (ap Ok (balance_is_owed counts_all ops))

@@ -10,6 +10,7 @@ use lib.Dec.{eqb, leb, ltb}
 use lib.ListN.{length, get_or, drop, replicate, length-map}
 use lib.Seq.{drop_at}
 use borrow.Author.Tests.{le-leb, lt-leb, lt-ltb, le-ltb, ltb-false, ltb-true, leb-true, not-true, not-false}
+use Rattle.std.specs.Prelude.{is_ok}
 use Rattle.common.specs.Lists.{every, any, same}
 use Rattle.common.specs.Checks.{Finding, clean, fault, Check, check, first_fault}
 use Rattle.common.proofs.Tests.{side, never, both_true}
@@ -30,7 +31,7 @@ use Rattle.book.specs.Words.{Entry, no_entry, capacity, count_of, entries, quest
 use Rattle.book.specs.Due.{due_from}
 use Rattle.book.specs.Sound.{is_zero, number_in_limits, bound_of, is_bounded, entry_sound, has_number, held_at}
 use Rattle.sales.specs.Sales.{is_clean, place, is_present, present, sale_checks, is_booked, sale_words, cancel_checks, is_cancelled, cancel_words}
-use Rattle.sales.specs.History.{Number, is_in, is_priced, books}
+use Rattle.sales.specs.History.{Number, is_in, parts_told, books}
 use Rattle.book.proofs.EntryWords.{cancelled_entry, Whole}
 use Rattle.book.proofs.NumbersDiffer.{has_number_lem, held_only}
 use Rattle.book.proofs.SoundBook.{IsSound, sound_is, sound_entry, zero_from, entries_length}
@@ -61,11 +62,11 @@ unfolding held_at
 present_is w n = sym (any_least (has_number n.till n.sequence) no_entry (entries w)) ∙ any_number n (entries w)
 
 -- the bundle gives a fare exactly if its checks find nothing
-clean_price : (f : Finding) (parts : List ℕ) → is_clean f ≡ is_priced (quoted f parts).outcome
+clean_price : (f : Finding) (parts : List ℕ) → is_clean f ≡ is_ok (quoted f parts)
 clean_price clean parts = refl
 clean_price (fault why) parts = refl
 
-priced_is : (b : List ℕ) (q : Question) → is_clean (first_fault (fare_checks b q)) ≡ is_priced (fare_of b q).outcome
+priced_is : (b : List ℕ) (q : Question) → is_clean (first_fault (fare_checks b q)) ≡ is_ok (fare_of b q)
 unfolding fare_of
 priced_is b q = clean_price (first_fault (fare_checks b q)) (parts_of (records_of b) q)
 
@@ -114,7 +115,7 @@ module _ (b : List ℕ) (q : Question) (c : first_fault (fare_checks b q) ≡ cl
   abbrev parts : List ℕ
   parts = parts_of (records_of b) q
 
-  pub fare_parts : (fare_of b q).parts ≡ parts
+  pub fare_parts : parts_told (fare_of b q) ≡ parts
   unfolding fare_of
   fare_parts = rw c
 
@@ -132,7 +133,7 @@ module _ (b : List ℕ) (q : Question) (c : first_fault (fare_checks b q) ≡ cl
   parts_clear = rw (drop_at own (replicate (8 - q.count) 0) q.count own_length) (every_replicate is_zero 0 refl (8 - q.count))
 
   -- and what its words count is due from it
-  pub sold_due : {f : List ℕ → List ℕ → ℕ} {legs : Leg → Bool} → Counts f legs → f (question_words q) parts ≡ due_from legs q (fare_of b q).parts
+  pub sold_due : {f : List ℕ → List ℕ → ℕ} {legs : Leg → Bool} → Counts f legs → f (question_words q) parts ≡ due_from legs q (parts_told (fare_of b q))
   sold_due {legs = legs} k =
       k.as_due q parts (asked q priced_in_limits).few (zero_from parts q.count parts_clear) ∙ ap (due_from legs q) (sym fare_parts)
 
@@ -177,7 +178,7 @@ module _ (w : List ℕ) (s : IsSound w) (n : Number) (b : List ℕ) (q : Questio
     told =
         let a = both_true (number_in_limits t u) _ e in
         let p = both_true (not (is_in n (sale_numbers_of (entries w)))) _ a.1 in
-        let k = both_true (ltb (length (sale_numbers_of (entries w))) capacity) (is_priced (fare_of b q).outcome) p.1 in (
+        let k = both_true (ltb (length (sale_numbers_of (entries w))) capacity) (is_ok (fare_of b q)) p.1 in (
           a.0,
           present_is w n ∙ not-true (is_in n (sale_numbers_of (entries w))) p.0,
           rw (length-map (entries w) sale_number_of) at (ltb-true (length (sale_numbers_of (entries w))) capacity k.0),

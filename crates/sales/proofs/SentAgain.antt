@@ -10,6 +10,7 @@ use lib.Dec.{eqb}
 use lib.ListN.{length, get_or, length-append, length-map, get_or-append}
 use lib.Seq.{get_or_at}
 use borrow.Author.Tests.{eq-eqb}
+use Rattle.std.specs.Prelude.{Ok, Err}
 use Rattle.common.specs.Lists.{same}
 use Rattle.common.specs.Checks.{refuse}
 use Rattle.common.proofs.Lists.{is_same}
@@ -21,7 +22,8 @@ use Rattle.book.specs.Words.{Entry, no_entry, count_of, entries, entry_at, quest
 use Rattle.book.specs.Sound.{has_number}
 use Rattle.book.specs.SameQuestion.{SameQuestion}
 use Rattle.book.specs.Meaning.{Sound, Holds}
-use Rattle.sales.specs.Sales.{sale_answer, sale_words, cancel_answer, cancel_words, is_booked, receipt, no_receipt}
+use Rattle.sales.specs.Sales.{sale_answer, sale_words, cancel_answer, cancel_words, is_booked, receipt}
+use Rattle.sales.specs.declared.Receipt.{Receipt}
 use Rattle.sales.specs.declared.Outcome.TheVariants.{Booked, AlreadyBooked, Cancelled, AlreadyCancelled}
 use Rattle.sales.specs.History.{Number, Op, sale, cancel, empty_book, after, cancelled_in, is_number, books, booked_by}
 use Rattle.sales.specs.Reading.{booking_at, entry_answer, find_answer, IsSale}
@@ -108,12 +110,12 @@ module _ (first : List Op) (n : Number) (b : List ℕ) (q : Question) (more : Li
   abbrev now : List ℕ
   now = after empty_book (first ++ (sale n b q ∷ more))
 
-  module _ (e : (sale_answer start n.till n.sequence b q).outcome ≡ Booked) where
+  module _ {r : Receipt} (a : sale_answer start n.till n.sequence b q ≡ Ok r) (e : r.outcome ≡ Booked) where
     at_first : IsSound start
     at_first = stays_sound first empty_book empty_sound
 
     booked : books (sale_numbers_of (entries start)) n b q ≡ true
-    booked = sym (books_is start at_first n b q) ∙ booked_is start n.till n.sequence b q e
+    booked = sym (books_is start at_first n b q) ∙ booked_is start n.till n.sequence b q a e
 
     abbrev sold : List ℕ
     sold = sale_words start n.till n.sequence b q
@@ -175,11 +177,11 @@ module _ (first : List Op) (n : Number) (b : List ℕ) (q : Question) (more : Li
 
     -- told its first parts and its status if the question is the same,
     pub told_first : (b' : List ℕ) (q' : Question) → SameQuestion q q'
-        → sale_answer now n.till n.sequence b' q' ≡ receipt (AlreadyBooked (cond (cancelled_in n more) 1 0)) (parts_of (records_of b) q)
+        → sale_answer now n.till n.sequence b' q' ≡ Ok (receipt (AlreadyBooked (cond (cancelled_in n more) 1 0)) (parts_of (records_of b) q))
     told_first b' q' h =
         answered b' q'
         ∙ again_same (later entry more) i q' (ap (λ x. same x (question_words q')) (asked_is (cancelled_in n more)) ∙ same_words q q' h)
-        ∙ kept (cancelled_in n more)
+        ∙ ap Ok (kept (cancelled_in n more))
 
     behind_all : i ≡ length (booked_by [] first)
     behind_all = sym (length-map (entries start) sale_number_of) ∙ ap length (booked_numbers first)
@@ -189,11 +191,11 @@ module _ (first : List Op) (n : Number) (b : List ℕ) (q : Question) (more : Li
 
     -- refused by 23 if it is another, at its entry: behind as many as were booked before it,
     pub refused_other : (b' : List ℕ) (q' : Question) → (SameQuestion q q' → ⊥)
-        → sale_answer now n.till n.sequence b' q' ≡ no_receipt (refuse 23 (length (booked_by [] first)) 0)
+        → sale_answer now n.till n.sequence b' q' ≡ Err (refuse 23 (length (booked_by [] first)) 0)
     refused_other b' q' h =
         answered b' q'
         ∙ (again_other (later entry more) i q' (ap (λ x. same x (question_words q')) (asked_is (cancelled_in n more)) ∙ other_words q q' few_legs h)
-        ∙ ap (λ k. no_receipt (refuse 23 k 0)) behind_all)
+        ∙ ap (λ k. Err (refuse 23 k 0)) behind_all)
 
     -- and nothing changes
     pub nothing_changes : (b' : List ℕ) (q' : Question) → sale_words now n.till n.sequence b' q' ≡ now
@@ -206,21 +208,21 @@ module _ (first : List Op) (n : Number) (b : List ℕ) (q : Question) (more : Li
     cancelled_by true = refl
     cancelled_by false = refl
 
-    pub cancel_told : cancel_answer now n.till n.sequence ≡ receipt (cond (cancelled_in n more) AlreadyCancelled Cancelled) (parts_of (records_of b) q)
+    pub cancel_told : cancel_answer now n.till n.sequence ≡ Ok (receipt (cond (cancelled_in n more) AlreadyCancelled Cancelled) (parts_of (records_of b) q))
     cancel_told =
         known_cancel now now_meant n number i inside_now holds
-        ∙ (ap (λ (x : Entry). receipt (cond (eqb x.status 0) Cancelled AlreadyCancelled) x.parts) the_entry ∙ cancelled_by (cancelled_in n more))
+        ∙ ap Ok (ap (λ (x : Entry). receipt (cond (eqb x.status 0) Cancelled AlreadyCancelled) x.parts) the_entry ∙ cancelled_by (cancelled_in n more))
 
     -- A find tells it: where it stands, as it was asked and first priced, and whether it is cancelled; and so does its entry.
     read_back : SameQuestion q (question_of (question_words q))
     read_back = same_question q (question_of (question_words q)) few_legs (is_same _ _ (sym (words_again q)))
 
-    as_sold : (c : Bool) → IsSale (booking_at i (cond c (cancelled_entry entry) entry)) i n q (parts_of (records_of b) q) c
-    as_sold true = record { found = refl; entry = refl; till = refl; sequence = refl; question = read_back; unused = no_leg_said q; amounts = refl; status = refl }
-    as_sold false = record { found = refl; entry = refl; till = refl; sequence = refl; question = read_back; unused = no_leg_said q; amounts = refl; status = refl }
+    as_sold : (c : Bool) → IsSale (Ok (booking_at i (cond c (cancelled_entry entry) entry))) i n q (parts_of (records_of b) q) c
+    as_sold true = record { sale = booking_at i (cancelled_entry entry); found = refl; entry = refl; till = refl; sequence = refl; question = read_back; unused = no_leg_said q; amounts = refl; status = refl }
+    as_sold false = record { sale = booking_at i entry; found = refl; entry = refl; till = refl; sequence = refl; question = read_back; unused = no_leg_said q; amounts = refl; status = refl }
 
-    found_at : find_answer now n.till n.sequence ≡ booking_at i (later entry more)
-    found_at = known_find now now_meant n number i inside_now holds ∙ ap (booking_at i) the_entry
+    found_at : find_answer now n.till n.sequence ≡ Ok (booking_at i (later entry more))
+    found_at = known_find now now_meant n number i inside_now holds ∙ ap (λ x. Ok (booking_at i x)) the_entry
 
     pub found_again : IsSale (find_answer now n.till n.sequence) (length (booked_by [] first)) n q (parts_of (records_of b) q) (cancelled_in n more)
     found_again = rw (found_at, ← behind_all) (as_sold (cancelled_in n more))

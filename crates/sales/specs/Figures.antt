@@ -1,6 +1,6 @@
 -- A day of one till, as document 01 tells it: what the engine answers to each call, from the empty book and a bundle that is written out.
 -- Assumes nothing.
-use Rattle.std.specs.Prelude.{ℕ, ◌≡◌, List, [], ◌∷◌, ◌++◌}
+use Rattle.std.specs.Prelude.{ℕ, ◌≡◌, List, [], ◌∷◌, ◌++◌, Ok}
 use Rattle.common.specs.Lists.{first_of}
 use Rattle.layout.specs.Bytes.{byte_N}
 use Rattle.bundle.specs.Samples.{grant, conditions}
@@ -11,7 +11,6 @@ use Rattle.sales.specs.Balances.{balance_answer, total_answer}
 use Rattle.sales.specs.History.{Number, Op, sale, cancel, empty_book, after}
 use Rattle.sales.specs.declared.Outcome.{Outcome}
 use Rattle.sales.specs.declared.Outcome.TheVariants.{Booked, AlreadyBooked, Cancelled}
-use Rattle.sales.specs.declared.Sum.TheVariants.{Amount}
 
 -- "sale till 1, sequence 1, parts 2274 for 1185 and 1500 for 1181"
 abbrev pub number : Number
@@ -31,16 +30,16 @@ sold = sale number bundle asked
 
 -- what is then owed 1185, 1181 and all
 pub record Owes (ops : List Op) (first second all : ℕ) : Type 0 where
-  pub to_first : balance_answer (after empty_book ops) 1185 ≡ Amount first
-  pub to_second : balance_answer (after empty_book ops) 1181 ≡ Amount second
-  pub to_all : total_answer (after empty_book ops) ≡ Amount all
+  pub to_first : balance_answer (after empty_book ops) 1185 ≡ Ok first
+  pub to_second : balance_answer (after empty_book ops) 1181 ≡ Ok second
+  pub to_all : total_answer (after empty_book ops) ≡ Ok all
 
 -- what the sale, and its cancellation, is answered after some operations
 abbrev pub Sells : List Op → Outcome → Type 0
-Sells ops outcome = sale_answer (after empty_book ops) 1 1 bundle asked ≡ receipt outcome parts
+Sells ops outcome = sale_answer (after empty_book ops) 1 1 bundle asked ≡ Ok (receipt outcome parts)
 
 abbrev pub Cancels : List Op → Outcome → Type 0
-Cancels ops outcome = cancel_answer (after empty_book ops) 1 1 ≡ receipt outcome parts
+Cancels ops outcome = cancel_answer (after empty_book ops) 1 1 ≡ Ok (receipt outcome parts)
 
 -- "total 3774. Sent again: 3774. Cancelled: both balances 0. Sent again: already booked, cancelled, total 0."
 pub record Day : Type 0 where

@@ -1,14 +1,14 @@
 -- DEMAND 3: what is owed after any sequence of sales and cancellations, told from the history alone, by the questions and the fares of its sales. No word,
 -- entry or answer of a book stands in `owed`.
 -- Assumes nothing.
-use Rattle.std.specs.Prelude.{ℕ, ◌+◌, Bool, true, false, cond, not, ◌&&◌, ◌||◌, List, [], ◌∷◌, ◌++◌, eqb, ltb, length, replicate}
+use Rattle.std.specs.Prelude.{ℕ, ◌+◌, Bool, true, false, cond, not, ◌&&◌, ◌||◌, List, [], ◌∷◌, ◌++◌, eqb, ltb, length, replicate, Result, Ok, Err, is_ok}
 use Rattle.common.specs.Lists.{any}
+use Rattle.common.specs.declared.Refusal.{Refusal}
 use Rattle.fares.specs.Question.{between}
 use Rattle.fares.specs.Fare.{fare_of}
 use Rattle.fares.specs.declared.Leg.{Leg}
 use Rattle.fares.specs.declared.Question.{Question}
-use Rattle.fares.specs.declared.Pricing.{Pricing}
-use Rattle.fares.specs.declared.Pricing.TheVariants.{Priced, Refused}
+use Rattle.fares.specs.declared.Quote.{Quote}
 use Rattle.book.specs.Words.{book_length}
 use Rattle.book.specs.Due.{due_from}
 use Rattle.sales.specs.Sales.{sale_words, cancel_words}
@@ -51,13 +51,14 @@ cancelled_in n (cancel m ∷ ops) = same_number m n || cancelled_in n ops
 abbrev pub is_number : Number → Bool
 is_number n = between 1 65535 n.till && between 1 4294967295 n.sequence
 
-abbrev pub is_priced : Pricing → Bool
-is_priced Priced = true
-is_priced (Refused why) = false
+-- the parts of a fare, none where there is no fare
+abbrev pub parts_told : Result Quote Refusal → List ℕ
+parts_told (Ok quote) = quote.parts
+parts_told (Err why) = []
 
 -- a sale books if its number is within its limits and new, fewer than 256 are booked, and the bundle gives it a fare; ns are the numbers booked before
 unfoldable pub books : List Number → Number → List ℕ → Question → Bool
-books ns n bundle q = is_number n && (not (is_in n ns) && (ltb (length ns) 256 && is_priced (fare_of bundle q).outcome))
+books ns n bundle q = is_number n && (not (is_in n ns) && (ltb (length ns) 256 && is_ok (fare_of bundle q)))
 
 -- the numbers that the operations book, in order, after those booked before
 unfoldable pub booked_by : List Number → List Op → List Number
@@ -70,6 +71,6 @@ unfoldable pub owed : (Leg → Bool) → List Number → List Op → ℕ
 owed legs ns [] = 0
 owed legs ns (sale n bundle q ∷ ops) =
     cond (books ns n bundle q)
-    (cond (cancelled_in n ops) 0 (due_from legs q (fare_of bundle q).parts) + owed legs (ns ++ (n ∷ [])) ops)
+    (cond (cancelled_in n ops) 0 (due_from legs q (parts_told (fare_of bundle q))) + owed legs (ns ++ (n ∷ [])) ops)
     (owed legs ns ops)
 owed legs ns (cancel n ∷ ops) = owed legs ns ops

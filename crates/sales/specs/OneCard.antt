@@ -1,8 +1,9 @@
 -- THE BASE'S SALE, cancellation, balance and total: what they were, and left in the book, while a question had one card or none (document 01, 'The sales book').
 -- They differ from today's in when a book is sound, in the words of a question, and in its fare; and are kept to say that one card is answered as it was.
 -- Assumes nothing.
-use Rattle.std.specs.Prelude.{ℕ, cond}
+use Rattle.std.specs.Prelude.{ℕ, cond, Result}
 use mathlib.Core.List.{List, [], ◌∷◌, Memᴰ}
+use Rattle.common.specs.declared.Refusal.{Refusal}
 use Rattle.common.specs.Checks.{Check}
 use Rattle.bundle.specs.Records.{records_of}
 use Rattle.fares.specs.OneCard.{OneCard, base_parts, base_checks}
@@ -14,14 +15,13 @@ use Rattle.sales.specs.Sales.{place, sale_checks_by, sale_answer_by, is_booked_b
 use Rattle.sales.specs.Balances.{balance_checks_by, balance_by, total_checks_by, total_by}
 use Rattle.sales.specs.History.{Number, Op, sale, cancel}
 use Rattle.sales.specs.declared.Receipt.{Receipt}
-use Rattle.sales.specs.declared.Sum.{Sum}
 
 module _ (book : List ℕ) (till sequence : ℕ) where
   module _ (bundle : List ℕ) (q : Question) where
     abbrev pub base_sale_checks : List Check
     base_sale_checks = sale_checks_by book till sequence (base_sound book) (base_words q) (base_checks bundle q)
 
-    unfoldable pub base_sale : Receipt
+    unfoldable pub base_sale : Result Receipt Refusal
     base_sale = sale_answer_by book till sequence base_sale_checks (base_parts (records_of bundle) q)
 
     unfoldable pub base_sale_words : List ℕ
@@ -30,7 +30,7 @@ module _ (book : List ℕ) (till sequence : ℕ) where
   abbrev pub base_cancel_checks : List Check
   base_cancel_checks = cancel_checks_by book till sequence (base_sound book)
 
-  unfoldable pub base_cancel : Receipt
+  unfoldable pub base_cancel : Result Receipt Refusal
   base_cancel = cancel_answer_by book till sequence base_cancel_checks
 
   unfoldable pub base_cancel_words : List ℕ
@@ -46,8 +46,8 @@ base_after book (cancel n ∷ ops) = base_after (base_cancel_words book n.till n
 abbrev pub OneCardOps : List Op → Type 0
 OneCardOps ops = (n : Number) (bundle : List ℕ) (q : Question) → Memᴰ (sale n bundle q) ops → OneCard q
 
-unfoldable pub base_balance : List ℕ → ℕ → Sum
+unfoldable pub base_balance : List ℕ → ℕ → Result ℕ Refusal
 base_balance book railway = balance_by (balance_checks_by (base_sound book) railway) book railway
 
-unfoldable pub base_total : List ℕ → Sum
+unfoldable pub base_total : List ℕ → Result ℕ Refusal
 base_total book = total_by (total_checks_by (base_sound book)) book

@@ -1,6 +1,6 @@
 -- What a sale and a cancel answer, and what they leave in the book (document 01, 'The sales book', numbers 21 to 25).
 -- Assumes nothing.
-use Rattle.std.specs.Prelude.{ℕ, Bool, true, false, cond, not, ◌&&◌, List, [], ◌∷◌, eqb, leb, ltb, length, get_or, replicate}
+use Rattle.std.specs.Prelude.{ℕ, Bool, true, false, cond, not, ◌&&◌, List, [], ◌∷◌, eqb, leb, ltb, length, get_or, Result}
 use Rattle.common.specs.Lists.{same}
 use Rattle.common.specs.Checks.{Finding, clean, fault, Check, check, unless, first_fault}
 use Rattle.common.specs.declared.Refusal.{Refusal}
@@ -11,12 +11,8 @@ use Rattle.book.specs.Words.{Entry, no_entry, capacity, entries, question_words,
 use Rattle.book.specs.Changes.{added, cancelled_at}
 use Rattle.book.specs.Sound.{number_in_limits, held_at, sound_words}
 use Rattle.sales.specs.declared.Outcome.{Outcome}
-use Rattle.sales.specs.declared.Outcome.TheVariants.{Booked, AlreadyBooked, Cancelled, AlreadyCancelled, Refused}
+use Rattle.sales.specs.declared.Outcome.TheVariants.{Booked, AlreadyBooked, Cancelled, AlreadyCancelled}
 use Rattle.sales.specs.declared.Receipt.{Receipt}
-
--- "Every refusal answers with all amounts zero"
-abbrev pub no_receipt : Refusal → Receipt
-no_receipt why = record { outcome = Refused why; parts = replicate 8 0 }
 
 abbrev pub receipt : Outcome → List ℕ → Receipt
 receipt o parts = record { outcome = o; parts = parts }
@@ -54,12 +50,12 @@ module _ (book : List ℕ) (till sequence : ℕ) where
   sale_checks bundle q = sale_checks_by (sound_words book) (question_words q) (fare_checks bundle q)
 
   -- "with the first parts and the cancelled mark", which is the entry's status; by the checks of the sale, and the parts of its fare
-  abbrev pub sale_answer_by : List Check → List ℕ → Receipt
+  abbrev pub sale_answer_by : List Check → List ℕ → Result Receipt Refusal
   sale_answer_by checks parts =
-      unless no_receipt (first_fault checks)
+      unless (first_fault checks)
       (cond is_present (receipt (AlreadyBooked present.status) present.parts) (receipt Booked parts))
 
-  unfoldable pub sale_answer : List ℕ → Question → Receipt
+  unfoldable pub sale_answer : List ℕ → Question → Result Receipt Refusal
   sale_answer bundle q = sale_answer_by (sale_checks bundle q) (parts_of (records_of bundle) q)
 
   -- nothing fails, and the number is new
@@ -83,10 +79,10 @@ module _ (book : List ℕ) (till sequence : ℕ) where
   unfoldable pub cancel_checks : List Check
   cancel_checks = cancel_checks_by (sound_words book)
 
-  abbrev pub cancel_answer_by : List Check → Receipt
-  cancel_answer_by checks = unless no_receipt (first_fault checks) (cancel_receipt present)
+  abbrev pub cancel_answer_by : List Check → Result Receipt Refusal
+  cancel_answer_by checks = unless (first_fault checks) (cancel_receipt present)
 
-  unfoldable pub cancel_answer : Receipt
+  unfoldable pub cancel_answer : Result Receipt Refusal
   cancel_answer = cancel_answer_by cancel_checks
 
   abbrev pub is_cancelled_by : List Check → Bool

@@ -1,38 +1,28 @@
 // What a sale and a cancellation come to, before anything is written.
 ghost use Rattle.std.specs.Prelude.{◌≡◌, ◌+◌, ◌≤◌, length};
-ghost use Rattle.common.specs.Checks.{refuse};
 ghost use Rattle.book.specs.Words.{width, start_of, entry_at};
-ghost use Rattle.sales.specs.Sales.{no_receipt, cancel_receipt, sale_answer, cancel_answer};
+ghost use Rattle.sales.specs.Sales.{cancel_receipt, sale_answer, cancel_answer};
 ghost use Rattle.sales.specs.Helpers.{again_answer, first_answer};
 
-use super::reading::{Looked, look_up};
+use super::reading::look_up;
 use super::{Outcome, Receipt};
 use common::Refusal;
 use fares::Question;
 
-fn no_receipt(why: Refusal) -> Receipt
-    ensures { result ≡ no_receipt why }
-{
-    Receipt {
-        outcome: Outcome::Refused(why),
-        parts: [0; 8],
-    }
-}
-
-fn refused(number: u8, place: usize, detail: usize) -> Receipt
-    ensures { result ≡ no_receipt (refuse number place detail) }
-{
-    no_receipt(common::refuse(number, place, detail))
-}
-
-pub fn judge_sale(book: &[u32], bundle: &[u8], till: u32, sequence: u64, q: Question) -> Receipt
+pub fn judge_sale(
+    book: &[u32],
+    bundle: &[u8],
+    till: u32,
+    sequence: u64,
+    q: Question,
+) -> Result<Receipt, Refusal>
     ensures { result ≡ sale_answer book.now till sequence bundle.now q }
 {
     if !book::sound::is_sound(book) {
-        return refused(21, 0, 0);
+        return Err(common::refuse(21, 0, 0));
     }
     if !book::sound::is_number(till, sequence) {
-        return refused(22, 0, 0);
+        return Err(common::refuse(22, 0, 0));
     }
     let count = book::entries::count(book);
     let place = book::entries::find(book, till, sequence as u32);
@@ -40,51 +30,42 @@ pub fn judge_sale(book: &[u32], bundle: &[u8], till: u32, sequence: u64, q: Ques
         return sold_again(book, place, q);
     }
     if book::CAPACITY <= count {
-        return refused(24, 0, 0);
+        return Err(common::refuse(24, 0, 0));
     }
     sold_first(bundle, q)
 }
 
 // A number that is in the book: the same sale again, or another one.
-fn sold_again(book: &[u32], place: usize, q: Question) -> Receipt
+fn sold_again(book: &[u32], place: usize, q: Question) -> Result<Receipt, Refusal>
     requires { start_of place + width ≤ length book.now }
     ensures { result ≡ again_answer (entry_at book.now place) place q }
 {
     if !book::entries::asks(book, place, q) {
-        return refused(23, place, 0);
+        return Err(common::refuse(23, place, 0));
     }
-    Receipt {
+    Ok(Receipt {
         outcome: Outcome::AlreadyBooked(book::entries::status_of(book, place)),
         parts: book::entries::parts_of(book, place),
-    }
+    })
 }
 
 // A new number: booked if the bundle gives it a fare.
-fn sold_first(bundle: &[u8], q: Question) -> Receipt
+fn sold_first(bundle: &[u8], q: Question) -> Result<Receipt, Refusal>
     ensures { result ≡ first_answer bundle.now q }
 {
-    let quote = fares::fare(bundle, q);
-    let outcome = quote.outcome;
-    match outcome {
-        fares::Pricing::Refused(why) => no_receipt(why),
-        fares::Pricing::Priced => {
-            let parts = quote.parts;
-            Receipt {
-                outcome: Outcome::Booked,
-                parts,
-            }
-        }
-    }
+    let quote = fares::fare(bundle, q)?;
+    let parts = quote.parts;
+    Ok(Receipt {
+        outcome: Outcome::Booked,
+        parts,
+    })
 }
 
-pub fn judge_cancel(book: &[u32], till: u32, sequence: u64) -> Receipt
+pub fn judge_cancel(book: &[u32], till: u32, sequence: u64) -> Result<Receipt, Refusal>
     ensures { result ≡ cancel_answer book.now till sequence }
 {
-    let looked = look_up(book, till, sequence);
-    match looked {
-        Looked::Refused(why) => no_receipt(why),
-        Looked::At(place) => cancelled_at(book, place),
-    }
+    let place = look_up(book, till, sequence)?;
+    Ok(cancelled_at(book, place))
 }
 
 // An entry that is to be cancelled: a live sale, or one that was cancelled before.

@@ -8,49 +8,27 @@ ghost use Rattle.sales.specs.Balances.{balance_answer, total_answer};
 mod judged;
 pub mod reading;
 
-// What came of a sale or a cancellation; `AlreadyBooked` has the status of the entry, 1 if it is cancelled.
+use common::Refusal;
+
+// What came of a sale or a cancellation that is not refused; `AlreadyBooked` has the status of the entry, 1 if it is cancelled.
 #[derive(Clone, Copy)]
 pub enum Outcome {
     Booked,
     AlreadyBooked(u32),
     Cancelled,
     AlreadyCancelled,
-    Refused(common::Refusal),
 }
 
-// The outcome with the sale's parts; all zero where it is refused.
+// The outcome with the sale's parts.
 #[derive(Clone, Copy)]
 pub struct Receipt {
     pub outcome: Outcome,
     pub parts: [u32; 8],
 }
 
-// A balance or a total in cents, or why there is none.
-#[derive(Clone, Copy)]
-pub enum Sum {
-    Amount(u64),
-    Refused(common::Refusal),
-}
-
-// How many sales a book has, or why that is not told.
-#[derive(Clone, Copy)]
-pub enum Tally {
-    Entries(usize),
-    Refused(common::Refusal),
-}
-
-// Whether a sale was found in a book, or why not.
-#[derive(Clone, Copy)]
-pub enum Lookup {
-    Found,
-    Refused(common::Refusal),
-}
-
-// A sale as a book has it: which entry it is, its number, what was asked, the parts as first priced, and the status, 1 if it is cancelled. All zero
-// where it is refused.
+// A sale as a book has it: which entry it is, its number, what was asked, the parts as first priced, and the status, 1 if it is cancelled.
 #[derive(Clone, Copy)]
 pub struct Booking {
-    pub outcome: Lookup,
     pub entry: usize,
     pub till: u32,
     pub sequence: u32,
@@ -66,52 +44,49 @@ pub fn sale(
     till: u32,
     sequence: u64,
     q: fares::Question,
-) -> Receipt
+) -> Result<Receipt, Refusal>
     ensures value { result ≡ sale_answer book.old till sequence bundle.now q }
     ensures book_after { book.new ≡ sale_words book.old till sequence bundle.now q }
 {
-    let receipt = judged::judge_sale(book, bundle, till, sequence, q);
-    let outcome = receipt.outcome;
-    if let Outcome::Booked = outcome {
-        let parts = receipt.parts;
-        book::changes::append(book, till, sequence as u32, q, parts);
+    let receipt = judged::judge_sale(book, bundle, till, sequence, q)?;
+    if let Outcome::Booked = receipt.outcome {
+        book::changes::append(book, till, sequence as u32, q, receipt.parts);
     }
-    receipt
+    Ok(receipt)
 }
 
 // Cancels a sale; its entry stays, so that its number is never booked again.
-pub fn cancel(book: &mut [u32], till: u32, sequence: u64) -> Receipt
+pub fn cancel(book: &mut [u32], till: u32, sequence: u64) -> Result<Receipt, Refusal>
     ensures value { result ≡ cancel_answer book.old till sequence }
     ensures book_after { book.new ≡ cancel_words book.old till sequence }
 {
-    let receipt = judged::judge_cancel(book, till, sequence);
-    let outcome = receipt.outcome;
-    if let Outcome::Cancelled = outcome {
+    let receipt = judged::judge_cancel(book, till, sequence)?;
+    if let Outcome::Cancelled = receipt.outcome {
         let place = book::entries::find(book, till, sequence as u32);
         book::changes::cancel_entry(book, place);
     }
-    receipt
+    Ok(receipt)
 }
 
 // What a railway is owed.
-pub fn balance(book: &[u32], railway: u32) -> Sum
+pub fn balance(book: &[u32], railway: u32) -> Result<u64, Refusal>
     ensures { result ≡ balance_answer book.now railway }
 {
     if !book::sound::is_sound(book) {
-        return Sum::Refused(common::refuse(21, 0, 0));
+        return Err(common::refuse(21, 0, 0));
     }
     if !layout::company::is_railway(railway) {
-        return Sum::Refused(common::refuse(11, 0, 0));
+        return Err(common::refuse(11, 0, 0));
     }
-    Sum::Amount(book::sums::owed(book, railway))
+    Ok(book::sums::owed(book, railway))
 }
 
 // What all railways are owed.
-pub fn total(book: &[u32]) -> Sum
+pub fn total(book: &[u32]) -> Result<u64, Refusal>
     ensures { result ≡ total_answer book.now }
 {
     if !book::sound::is_sound(book) {
-        return Sum::Refused(common::refuse(21, 0, 0));
+        return Err(common::refuse(21, 0, 0));
     }
-    Sum::Amount(book::sums::owed(book, book::sums::ALL))
+    Ok(book::sums::owed(book, book::sums::ALL))
 }

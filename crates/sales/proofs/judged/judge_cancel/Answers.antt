@@ -1,22 +1,23 @@
 -- `sales::judged::judge_cancel` meets its contract.
 -- Assumes nothing.
-use mathlib.Core.Path.{◌≡◌, sym, ◌∙◌, ap}
+use Rattle.std.proofs.Common.{sym, ◌∙◌, ap}
+use Rattle.std.proofs.lemmas.Result.{err_from_is_err_and}
+use Rattle.std.specs.Prelude.{Ok}
+use Rattle.book.specs.Words.{Entry}
 use Rattle.sales.specs.Sales.{cancel_receipt}
-use Rattle.sales.specs.Helpers.{looked_up}
-use Rattle.sales.specs.declared.reading.Looked.TheVariants.{At}
 use Rattle.sales.proofs.AnswersByCase.{looked_up_refused, looked_up_at, looked_up_inside, looked_up_entry, cancel_refused, cancel_answered}
 use Rattle.sales.proofs.judged.judge_cancel.Goals as goal
 
+pub returns-in_err-place : goal.returns-in_err-place
+returns-in_err-place c =
+    let p = err_from_is_err_and c.from_residual.result c.from_residual.ensures.1 in
+    rw (p.1, p.2) (sym (cancel_refused _ _ _ (looked_up_refused _ _ _ (sym c.look_up.ensures ∙ c.in_err-place.was))))
+
 pub cancelled_at-requires : goal.cancelled_at-requires
-cancelled_at-requires c =
-    let there : let a = c.args in looked_up a.book.now a.till a.sequence ≡ At c.in-At.place = sym c.look_up-looked.ensures ∙ c.in-At.is in
-    looked_up_inside _ _ _ (there)
+cancelled_at-requires c = looked_up_inside _ _ _ (sym c.look_up.ensures ∙ c.in_ok-place.was)
 
-pub returns-in-Refused : goal.returns-in-Refused
-returns-in-Refused c = c.no_receipt.ensures ∙ sym (cancel_refused _ _ _ (looked_up_refused _ _ _ (sym c.look_up-looked.ensures ∙ c.in-Refused.is)))
-
-pub returns-in-At : goal.returns-in-At
-returns-in-At c =
-    let there : let a = c.args in looked_up a.book.now a.till a.sequence ≡ At c.in-At.place = sym c.look_up-looked.ensures ∙ c.in-At.is in
-    let e = there in
-    c.cancelled_at.ensures ∙ sym (cancel_answered _ _ _ (looked_up_at _ _ _ e).0 ∙ ap cancel_receipt (looked_up_entry _ _ _ e))
+pub returns : goal.returns
+returns c =
+    let e = sym c.look_up.ensures ∙ c.in_ok-place.was in
+    ap Ok c.cancelled_at.ensures
+    ∙ sym (cancel_answered _ _ _ (looked_up_at _ _ _ e).0 ∙ ap (λ (x : Entry). Ok (cancel_receipt x)) (looked_up_entry _ _ _ e))

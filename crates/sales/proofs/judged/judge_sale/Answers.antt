@@ -4,6 +4,7 @@ use Prim.Native.Nat.{◌≤◌}
 use mathlib.Core.Path.{◌≡◌, sym, ◌∙◌, ap}
 use mathlib.Core.Bool.{true}
 use native.Mathlib.Omega.{arith}
+use Rattle.std.specs.Prelude.{Err}
 use Rattle.common.proofs.Tests.{fails, holds}
 use Rattle.book.specs.Words.{count_of, entry_at}
 use Rattle.book.specs.Sound.{number_in_limits, sound_words}
@@ -14,12 +15,12 @@ use Rattle.sales.proofs.AnswersByCase.{sale_unsound, sale_no_number, sale_again,
 use Rattle.sales.proofs.judged.judge_sale.Goals as goal
 
 pub returns-then-not-is_sound : goal.returns-then-not-is_sound
-returns-then-not-is_sound c = c.refused.ensures ∙ sym (sale_unsound _ _ _ _ _ (fails c.is_sound.result c.if-not-is_sound.true-raw c.is_sound.ensures))
+returns-then-not-is_sound c = ap Err c.refuse.ensures ∙ sym (sale_unsound _ _ _ _ _ (fails c.is_sound.result c.if-not-is_sound.true-raw c.is_sound.ensures))
 
 pub returns-then-not-is_number : goal.returns-then-not-is_number
 returns-then-not-is_number c =
     let sound : sound_words c.args.book.now ≡ true = holds c.is_sound.result c.if-not-is_sound.false-raw c.is_sound.ensures in
-    c.refused-then-not-is_number.ensures ∙ sym (sale_no_number _ _ _ _ _ (sound) (fails c.is_number.result c.if-not-is_number.true-raw c.is_number.ensures))
+    ap Err c.refuse-then-not-is_number.ensures ∙ sym (sale_no_number _ _ _ _ _ (sound) (fails c.is_number.result c.if-not-is_number.true-raw c.is_number.ensures))
 
 pub overflow_cast-sequence : goal.overflow_cast-sequence
 overflow_cast-sequence c =
@@ -53,7 +54,7 @@ returns-then-count-ge-CAPACITY c =
     let number : number_in_limits c.args.till c.args.sequence ≡ true = holds c.is_number.result c.if-not-is_number.false-raw c.is_number.ensures in
     let absent : let a = c.args in count_of a.book.now ≤ place a.book.now a.till a.sequence = omega (arith, c.if-place-count.false, c.count-count.ensures, c.find-place.ensures) in
     let a = c.args in
-    c.refused-then-count-ge-CAPACITY.ensures
+    ap Err c.refuse-then-count-ge-CAPACITY.ensures
     ∙ sym (sale_full a.book.now a.till a.sequence a.bundle.now a.q (sound) (number) (absent) (omega (arith, c.if-count-ge-CAPACITY.true, c.count-count.ensures)))
 
 pub returns : goal.returns

@@ -5,6 +5,7 @@ use mathlib.Core.Path.{◌≡◌, sym, ◌∙◌, ap}
 use mathlib.Core.Bool.{true}
 use native.Mathlib.Omega.{arith}
 use borrow.Author.Tests.{lt-ltb, le-ltb}
+use Rattle.std.specs.Prelude.{Ok, Err}
 use Rattle.common.specs.Checks.{first_fault}
 use Rattle.common.proofs.Tests.{fails, holds}
 use Rattle.book.specs.Words.{count_of}
@@ -15,14 +16,14 @@ use Rattle.sales.proofs.reading.entry.Goals as goal
 
 pub returns-then-not-is_sound : goal.returns-then-not-is_sound
 unfolding entry_answer first_fault
-returns-then-not-is_sound c = c.refused.ensures ∙ sym (rw (fails c.is_sound.result c.if-not-is_sound.true-raw c.is_sound.ensures))
+returns-then-not-is_sound c = ap Err c.refuse.ensures ∙ sym (rw (fails c.is_sound.result c.if-not-is_sound.true-raw c.is_sound.ensures))
 
 pub returns-then-count-entry : goal.returns-then-count-entry
 unfolding entry_answer first_fault
 returns-then-count-entry c =
     let sound : sound_words c.args.book.now ≡ true = holds c.is_sound.result c.if-not-is_sound.false-raw c.is_sound.ensures in
     let a = c.args in
-    c.refused-then-count-entry.ensures
+    ap Err c.refuse-then-count-entry.ensures
     ∙ sym (rw (sound, entries_length a.book.now, le-ltb a.entry (count_of a.book.now) (omega (arith, c.if-count-entry.true, c.count.ensures))))
 
 pub booking_at-requires : goal.booking_at-requires
@@ -37,5 +38,5 @@ returns c =
     let sound : sound_words c.args.book.now ≡ true = holds c.is_sound.result c.if-not-is_sound.false-raw c.is_sound.ensures in
     let a = c.args in
     let l : a.entry < count_of a.book.now = omega (arith, c.if-count-entry.false, c.count.ensures) in
-    c.booking_at.ensures
-    ∙ sym (rw (sound, entries_length a.book.now, lt-ltb a.entry (count_of a.book.now) l) (ap (booking_at a.entry) (entry_is a.book.now a.entry l)))
+    ap Ok c.booking_at.ensures
+    ∙ sym (rw (sound, entries_length a.book.now, lt-ltb a.entry (count_of a.book.now) l) (ap (λ x. Ok (booking_at a.entry x)) (entry_is a.book.now a.entry l)))
