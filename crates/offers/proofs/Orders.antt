@@ -1,132 +1,121 @@
 -- Each answer follows its order of checks, and tells only the numbers of its call.
 -- Assumes nothing.
 use Prim.Native.Nat.{ℕ}
-use mathlib.Core.Path.{◌≡◌, refl, sym, ◌∙◌, ap}
+use mathlib.Core.Path.{◌≡◌, refl, sym, ◌∙◌, ap, subst}
 use mathlib.Core.Bool.{Bool, true, false, cond}
 use mathlib.Core.List.{List, [], ◌∷◌, ◌++◌, flat_map}
 use mathlib.Core.Logic.{⊎_elim}
 use native.Mathlib.Omega.{arith}
 use lib.Dec.{eqb, leb}
 use lib.ListN.{length, get_or, replicate}
+use Rattle.std.specs.Prelude.{Result, Ok, Err}
 use Rattle.common.specs.Lists.{every, any, sum}
 use Rattle.common.specs.Checks.{Finding, clean, fault, Check, check, unless, first_fault, each_from, TellsOf}
 use Rattle.common.specs.declared.Refusal.{Refusal}
 use Rattle.common.proofs.Tests.{never}
 use Rattle.common.proofs.Lists.{every_among}
-use Rattle.common.proofs.Checks.{by_finding, clean_means, means_clean, fault_means, means_fault, append_tells, each_tells, first_among}
+use Rattle.common.proofs.Checks.{clean_means, means_clean, fault_means, means_fault, append_tells, each_tells, first_among}
 use Rattle.bundle.specs.Records.{rest_of, records_of}
 use Rattle.bundle.specs.Verdict.{field_checks, end_checks, first_pass, record_checks, second_pass, checks, verdict_of}
-use Rattle.bundle.specs.declared.Judgement.{Judgement}
-use Rattle.bundle.specs.declared.Judgement.TheVariants.{Accepted, Refused}
 use Rattle.fares.specs.Question.{legs_of}
 use Rattle.fares.specs.Legs.{leg_checks}
-use Rattle.fares.specs.Fare.{parts_of, price_checks, fare_checks, no_fare, priced, fare_of}
+use Rattle.fares.specs.Fare.{parts_of, price_checks, fare_checks, quote, priced, fare_of}
 use Rattle.fares.specs.declared.Question.{Question}
 use Rattle.fares.specs.declared.Quote.{Quote}
-use Rattle.fares.specs.declared.Pricing.{Pricing}
-use Rattle.fares.specs.declared.Pricing.TheVariants.{Priced, Refused as NoFare}
 use Rattle.book.specs.Words.{no_entry, capacity, entries}
-use Rattle.sales.specs.Sales.{no_receipt, receipt, place, is_present, present, sale_checks, sale_answer, cancel_checks, cancel_answer}
+use Rattle.sales.specs.Sales.{receipt, cancel_receipt, place, is_present, present, sale_checks, sale_answer, cancel_checks, cancel_answer}
 use Rattle.book.specs.Amounts.{of_railway, of_all, balance_of}
 use Rattle.sales.specs.Balances.{balance_checks, total_checks, balance_answer, total_answer}
-use Rattle.sales.specs.Reading.{no_booking, booking_at, count_checks, entry_checks, count_answer, entry_answer, find_answer}
+use Rattle.sales.specs.Reading.{booking_at, count_checks, entry_checks, count_answer, entry_answer, find_answer}
 use Rattle.sales.specs.declared.Receipt.{Receipt}
-use Rattle.sales.specs.declared.Sum.TheVariants.{Amount, Refused as NoSum}
-use Rattle.sales.specs.declared.Tally.TheVariants.{Entries, Refused as NoCount}
 use Rattle.sales.specs.declared.Outcome.{Outcome}
-use Rattle.sales.specs.declared.Outcome.TheVariants.{Booked, AlreadyBooked, Cancelled, AlreadyCancelled, Refused as NoEntry}
+use Rattle.sales.specs.declared.Outcome.TheVariants.{Booked, AlreadyBooked, Cancelled, AlreadyCancelled}
 use Rattle.sales.proofs.AnswersByCase.{booked_parts}
-use Rattle.offers.specs.Answers.{Told, answers, refuses, verdict_tells, pricing_tells, fare_tells, booked, already_booked, cancelled, already_cancelled, outcome_tells, receipt_tells, sum_tells, tally_tells, booking_values, booking_width, lookup_tells, booking_tells, Follows}
+use Rattle.offers.specs.Answers.{Told, answers, refuses, tells_values, one_value, verdict_tells, quote_values, fare_tells, booked, already_booked, cancelled, already_cancelled, outcome_values, receipt_values, receipt_tells, sum_tells, tally_tells, booking_values, booking_width, booking_tells, Follows}
 use Rattle.offers.specs.Numbers.{Among, verdict_numbers, fare_numbers, sale_numbers, cancel_numbers, balance_numbers, total_numbers, count_numbers, entry_numbers, find_numbers, all_numbers}
 use Rattle.offers.specs.Numbers.{CallTells, by_verdict, by_fare, by_sale, by_cancel, by_balance, by_total, by_count, by_entry, by_find}
 
 -- WHAT IS TOLD by what the checks come to: a refusal with n zeros, or the values
-abbrev no_values : ℕ → Refusal → Told
-no_values n why = refuses why (replicate n 0)
+module _ {A : Type 0} (n : ℕ) (values : A → List ℕ) (a : A) where
+  told_clean : (f : Finding) (us : List ℕ) → tells_values n values (unless f a) ≡ answers us → (f ≡ clean) × (us ≡ values a)
+  unfolding tells_values
+  told_clean clean us e = (refl, cc)
+  told_clean (fault why) us e = (cc, cc)
 
-abbrev tells_by : ℕ → Finding → List ℕ → Told
-tells_by n f vs = unless (no_values n) f (answers vs)
+  told_fault : (f : Finding) (us : List ℕ) (why : Refusal) → tells_values n values (unless f a) ≡ refuses why us → (f ≡ fault why) × (us ≡ replicate n 0)
+  unfolding tells_values
+  told_fault clean us why e = (cc, cc)
+  told_fault (fault other) us why e = (cc, cc)
 
-told_clean : (n : ℕ) (f : Finding) (vs us : List ℕ) → tells_by n f vs ≡ answers us → (f ≡ clean) × (us ≡ vs)
-told_clean n f vs us e = ⊎_elim (λ h. (h.0, cc)) (λ h. let z : ◌≡◌ {A = ℕ} 0 1 = cc in absurd (omega arith)) (by_finding (no_values n) f (answers vs) e)
-
-told_fault : (n : ℕ) (f : Finding) (vs us : List ℕ) (why : Refusal) → tells_by n f vs ≡ refuses why us → (f ≡ fault why) × (us ≡ replicate n 0)
-told_fault n f vs us why e =
-    ⊎_elim (λ h. let z : ◌≡◌ {A = ℕ} 0 1 = cc in absurd (omega arith)) (λ h. (cc, cc)) (by_finding (no_values n) f (answers vs) e)
-
-follows : (t : Told) (cs : List Check) (n : ℕ) (vs : List ℕ) → t ≡ tells_by n (first_fault cs) vs → Follows t cs n vs
-follows t cs n vs e =
-    record {
-      refused_by = λ why us h. let r = told_fault n (first_fault cs) vs us why (sym e ∙ h) in (fault_means cs why r.0, r.1);
-      first_refuses = λ why f. e ∙ rw (means_fault cs why f);
-      answered_if = λ us h. let r = told_clean n (first_fault cs) vs us (sym e ∙ h) in (clean_means cs r.0, r.1);
-      passing_answers = λ a. e ∙ rw (means_clean cs a);
-    }
-
--- an answer that is told tells what was found, whatever kind of answer it is
-told : {A : Type 0} (tells : A → Told) (turned_away : Refusal → A) (f : Finding) (a : A)
-    → tells (unless turned_away f a) ≡ unless (λ why. tells (turned_away why)) f (tells a)
-told tells turned_away clean a = refl
-told tells turned_away (fault why) a = refl
+  follows : (cs : List Check) → Follows (tells_values n values (unless (first_fault cs) a)) cs n (values a)
+  unfolding tells_values
+  follows cs =
+      record {
+        refused_by = λ why us h. let r = told_fault (first_fault cs) us why h in (fault_means cs why r.0, r.1);
+        first_refuses = λ why f. rw (means_fault cs why f);
+        answered_if = λ us h. let r = told_clean (first_fault cs) us h in (clean_means cs r.0, r.1);
+        passing_answers = λ p. rw (means_clean cs p);
+      }
 
 module _ (s : List ℕ) where
   pub verdict_follows : Follows (verdict_tells (verdict_of s)) (checks s) 1 (length (records_of s) ∷ [])
-  unfolding verdict_of verdict_tells
-  verdict_follows = follows _ (checks s) 1 _ (told verdict_tells Refused (first_fault (checks s)) (Accepted (length (records_of s))))
+  unfolding verdict_of
+  verdict_follows = follows 1 one_value (length (records_of s)) (checks s)
 
   pub fare_follows : (q : Question) → let parts = parts_of (records_of s) q in Follows (fare_tells (fare_of s q)) (fare_checks s q) 9 (sum parts ∷ parts)
-  unfolding fare_of fare_tells pricing_tells
-  fare_follows q = follows _ (fare_checks s q) 9 _ (told fare_tells no_fare (first_fault (fare_checks s q)) (priced (parts_of (records_of s) q)))
+  unfolding fare_of
+  fare_follows q = follows 9 quote_values (priced (parts_of (records_of s) q)) (fare_checks s q)
 
 module _ (w : List ℕ) where
   pub balance_follows : (railway : ℕ) → Follows (sum_tells (balance_answer w railway)) (balance_checks w railway) 1 (balance_of (of_railway railway) (entries w) ∷ [])
-  unfolding balance_answer sum_tells
-  balance_follows railway = follows _ (balance_checks w railway) 1 _ (told sum_tells NoSum (first_fault (balance_checks w railway)) (Amount (balance_of (of_railway railway) (entries w))))
+  unfolding balance_answer
+  balance_follows railway = follows 1 one_value (balance_of (of_railway railway) (entries w)) (balance_checks w railway)
 
   pub total_follows : Follows (sum_tells (total_answer w)) (total_checks w) 1 (balance_of of_all (entries w) ∷ [])
-  unfolding total_answer sum_tells
-  total_follows = follows _ (total_checks w) 1 _ (told sum_tells NoSum (first_fault (total_checks w)) (Amount (balance_of of_all (entries w))))
+  unfolding total_answer
+  total_follows = follows 1 one_value (balance_of of_all (entries w)) (total_checks w)
 
   pub count_follows : Follows (tally_tells (count_answer w)) (count_checks w) 1 (length (entries w) ∷ [])
-  unfolding count_answer tally_tells
-  count_follows = follows _ (count_checks w) 1 _ (told tally_tells NoCount (first_fault (count_checks w)) (Entries (length (entries w))))
+  unfolding count_answer
+  count_follows = follows 1 one_value (length (entries w)) (count_checks w)
 
   pub entry_follows : (i : ℕ) → Follows (booking_tells (entry_answer w i)) (entry_checks w i) booking_width (booking_values (booking_at i (get_or (entries w) i no_entry)))
-  unfolding entry_answer booking_tells lookup_tells flat_map
-  entry_follows i = follows _ (entry_checks w i) booking_width _ (told booking_tells no_booking (first_fault (entry_checks w i)) (booking_at i (get_or (entries w) i no_entry)))
+  unfolding entry_answer
+  entry_follows i = follows booking_width booking_values (booking_at i (get_or (entries w) i no_entry)) (entry_checks w i)
 
   pub find_follows : (t s : ℕ) → Follows (booking_tells (find_answer w t s)) (cancel_checks w t s) booking_width (booking_values (booking_at (place w t s) (present w t s)))
-  unfolding find_answer booking_tells lookup_tells flat_map
-  find_follows t s = follows _ (cancel_checks w t s) booking_width _ (told booking_tells no_booking (first_fault (cancel_checks w t s)) (booking_at (place w t s) (present w t s)))
+  unfolding find_answer
+  find_follows t s = follows booking_width booking_values (booking_at (place w t s) (present w t s)) (cancel_checks w t s)
 
   module _ (t s : ℕ) where
-    told_sold : (b : Bool) (again first : List ℕ) → let status = (present w t s).status in
-        receipt_tells (cond b (receipt (AlreadyBooked status) again) (receipt Booked first)) ≡ answers (cond b (already_booked ∷ status ∷ again) (booked ∷ 0 ∷ first))
-    unfolding receipt_tells outcome_tells
-    told_sold true again first = refl
-    told_sold false again first = refl
+    values_sold : (b : Bool) (again first : List ℕ) → let status = (present w t s).status in
+        receipt_values (cond b (receipt (AlreadyBooked status) again) (receipt Booked first)) ≡ cond b (already_booked ∷ status ∷ again) (booked ∷ 0 ∷ first)
+    unfolding outcome_values
+    values_sold true again first = refl
+    values_sold false again first = refl
 
     pub sale_follows : (b : List ℕ) (q : Question) → Follows (receipt_tells (sale_answer w t s b q)) (sale_checks w t s b q) 10
         (cond (is_present w t s) (already_booked ∷ (present w t s).status ∷ (present w t s).parts) (booked ∷ 0 ∷ parts_of (records_of b) q))
-    unfolding sale_answer receipt_tells outcome_tells
+    unfolding sale_answer
     sale_follows b q =
-        follows _ (sale_checks w t s b q) 10 _
-        (told receipt_tells no_receipt (first_fault (sale_checks w t s b q)) _
-        ∙ ap (λ x. unless (no_values 10) (first_fault (sale_checks w t s b q)) x) (told_sold (is_present w t s) (present w t s).parts (parts_of (records_of b) q)))
+        let r = cond (is_present w t s) (receipt (AlreadyBooked (present w t s).status) (present w t s).parts) (receipt Booked (parts_of (records_of b) q)) in
+        subst (Follows (receipt_tells (unless (first_fault (sale_checks w t s b q)) r)) (sale_checks w t s b q) 10)
+        (values_sold (is_present w t s) (present w t s).parts (parts_of (records_of b) q))
+        (follows 10 receipt_values r (sale_checks w t s b q))
 
-    told_cancelled : (b : Bool) (parts : List ℕ)
-        → receipt_tells (receipt (cond b Cancelled AlreadyCancelled) parts) ≡ answers (cond b cancelled already_cancelled ∷ 1 ∷ parts)
-    unfolding receipt_tells outcome_tells
-    told_cancelled true parts = refl
-    told_cancelled false parts = refl
+    values_cancelled : (b : Bool) (parts : List ℕ)
+        → receipt_values (receipt (cond b Cancelled AlreadyCancelled) parts) ≡ cond b cancelled already_cancelled ∷ 1 ∷ parts
+    unfolding outcome_values
+    values_cancelled true parts = refl
+    values_cancelled false parts = refl
 
     pub cancel_follows : Follows (receipt_tells (cancel_answer w t s)) (cancel_checks w t s) 10
         (cond (eqb (present w t s).status 0) cancelled already_cancelled ∷ 1 ∷ (present w t s).parts)
-    unfolding cancel_answer receipt_tells outcome_tells
+    unfolding cancel_answer
     cancel_follows =
-        follows _ (cancel_checks w t s) 10 _
-        (told receipt_tells no_receipt (first_fault (cancel_checks w t s)) _
-        ∙ ap (λ x. unless (no_values 10) (first_fault (cancel_checks w t s)) x) (told_cancelled (eqb (present w t s).status 0) (present w t s).parts))
+        subst (Follows (receipt_tells (unless (first_fault (cancel_checks w t s)) (cancel_receipt (present w t s)))) (cancel_checks w t s) 10)
+        (values_cancelled (eqb (present w t s).status 0) (present w t s).parts)
+        (follows 10 receipt_values (cancel_receipt (present w t s)) (cancel_checks w t s))
 
 -- The numbers of each call.
 module _ (s : List ℕ) where
@@ -185,56 +174,55 @@ refused_among : {t : Told} {cs : List Check} {n : ℕ} {vs : List ℕ} (ns : Lis
 refused_among {cs = cs} ns f e why us h = first_among ns cs e why (f.refused_by why us h).0
 
 -- What is told tells the answer.
-pub told_accepted : (j : Judgement) (n : ℕ) → verdict_tells j ≡ answers (n ∷ []) → j ≡ Accepted n
-unfolding verdict_tells
-told_accepted (Accepted m) n e = let x : m ≡ n = cc in rw x
-told_accepted (Refused why) n e = let z : ◌≡◌ {A = ℕ} 0 1 = cc in absurd (omega arith)
+module _ {A : Type 0} (n : ℕ) (values : A → List ℕ) where
+  pub told_ok : (r : Result A Refusal) {vs : List ℕ} → tells_values n values r ≡ answers vs → (a : A) × (r ≡ Ok a) × (values a ≡ vs)
+  unfolding tells_values
+  told_ok (Ok a) e = (a, refl, cc)
+  told_ok (Err why) e = cc
 
-pub told_refused : (j : Judgement) (why : Refusal) (us : List ℕ) → verdict_tells j ≡ refuses why us → j ≡ Refused why
-unfolding verdict_tells
-told_refused (Accepted m) why us e = let z : ◌≡◌ {A = ℕ} 0 1 = cc in absurd (omega arith)
-told_refused (Refused other) why us e = let x : other ≡ why = cc in rw x
+  pub told_err : (r : Result A Refusal) {why : Refusal} {us : List ℕ} → tells_values n values r ≡ refuses why us → r ≡ Err why
+  unfolding tells_values
+  told_err (Ok a) e = cc
+  told_err (Err why) e = cc
 
-pricing_told : (o : Pricing) (us vs : List ℕ) → pricing_tells o us ≡ answers vs → (o ≡ Priced) × (us ≡ vs)
-unfolding pricing_tells
-pricing_told Priced us vs e = (refl, cc)
-pricing_told (NoFare why) us vs e = let z : ◌≡◌ {A = ℕ} 0 1 = cc in absurd (omega arith)
+pub told_accepted : (j : Result ℕ Refusal) (n : ℕ) → verdict_tells j ≡ answers (n ∷ []) → j ≡ Ok n
+told_accepted j n e =
+    let t = told_ok 1 one_value j e in
+    let x : t.0 ≡ n = let h = t.2 in cc in
+    t.1 ∙ ap Ok x
 
-pub told_priced : (r : Quote) (fare : ℕ) (parts : List ℕ) → fare_tells r ≡ answers (fare ∷ parts) → r ≡ record { outcome = Priced; fare = fare; parts = parts }
-unfolding fare_tells
+pub told_priced : (r : Result Quote Refusal) (fare : ℕ) (parts : List ℕ) → fare_tells r ≡ answers (fare ∷ parts) → r ≡ Ok (quote fare parts)
 told_priced r fare parts e =
-    let p = pricing_told r.outcome (r.fare ∷ r.parts) (fare ∷ parts) e in
-    let x : r.fare ≡ fare = cc in
-    let y : r.parts ≡ parts = cc in
-    λ j. record { outcome = p.0 j; fare = x j; parts = y j }
+    let t = told_ok 9 quote_values r e in
+    let x : t.0.fare ≡ fare = let h = t.2 in cc in
+    let y : t.0.parts ≡ parts = let h = t.2 in cc in
+    t.1 ∙ (λ j. Ok (quote (x j) (y j)))
 
-pub told_no_fare : (s : List ℕ) (q : Question) (why : Refusal) (us : List ℕ) → fare_tells (fare_of s q) ≡ refuses why us → fare_of s q ≡ no_fare why
-unfolding fare_of
-told_no_fare s q why us e = rw (means_fault (fare_checks s q) why ((fare_follows s q).refused_by why us e).0)
-
-outcome_booked : (o : Outcome) (ps parts : List ℕ) → outcome_tells o ps ≡ answers (booked ∷ 0 ∷ parts) → (o ≡ Booked) × (ps ≡ parts)
-unfolding outcome_tells
+outcome_booked : (o : Outcome) (ps parts : List ℕ) → outcome_values o ps ≡ booked ∷ 0 ∷ parts → (o ≡ Booked) × (ps ≡ parts)
+unfolding outcome_values
 outcome_booked Booked ps parts e = (refl, cc)
 outcome_booked (AlreadyBooked status) ps parts e = let z : already_booked ≡ booked = cc in absurd (omega (arith, z))
 outcome_booked Cancelled ps parts e = let z : cancelled ≡ booked = cc in absurd (omega (arith, z))
 outcome_booked AlreadyCancelled ps parts e = let z : already_cancelled ≡ booked = cc in absurd (omega (arith, z))
-outcome_booked (NoEntry why) ps parts e = let z : ◌≡◌ {A = ℕ} 0 1 = cc in absurd (omega arith)
 
-pub told_booked : (r : Receipt) (parts : List ℕ) → receipt_tells r ≡ answers (booked ∷ 0 ∷ parts) → (r.outcome ≡ Booked) × (r.parts ≡ parts)
-unfolding receipt_tells
-told_booked r parts e = outcome_booked r.outcome r.parts parts e
+pub told_booked : (r : Result Receipt Refusal) (parts : List ℕ) → receipt_tells r ≡ answers (booked ∷ 0 ∷ parts)
+    → (x : Receipt) × (r ≡ Ok x) × (x.outcome ≡ Booked) × (x.parts ≡ parts)
+told_booked r parts e =
+    let t = told_ok 10 receipt_values r e in
+    let b = outcome_booked t.0.outcome t.0.parts parts t.2 in
+    (t.0, t.1, b.0, b.1)
 
 pub first_parts : (w : List ℕ) (t s : ℕ) (b : List ℕ) (q : Question) (parts : List ℕ) → receipt_tells (sale_answer w t s b q) ≡ answers (booked ∷ 0 ∷ parts)
     → parts_of (records_of b) q ≡ parts
-first_parts w t s b q parts e = let r = told_booked (sale_answer w t s b q) parts e in sym (booked_parts w t s b q r.0) ∙ r.1
+first_parts w t s b q parts e = let r = told_booked (sale_answer w t s b q) parts e in sym (booked_parts w t s b q r.1 r.2) ∙ r.3
 
-pub booked_told : (r : Receipt) → r.outcome ≡ Booked → receipt_tells r ≡ answers (booked ∷ 0 ∷ r.parts)
-unfolding receipt_tells outcome_tells
-booked_told r e = ap (λ (o : Outcome). outcome_tells o r.parts) e
+pub booked_told : {r : Result Receipt Refusal} {x : Receipt} → r ≡ Ok x → x.outcome ≡ Booked → receipt_tells r ≡ answers (booked ∷ 0 ∷ x.parts)
+unfolding tells_values outcome_values
+booked_told {x = x} a e = rw (a, e)
 
-pub cancelled_told : (r : Receipt) → r.outcome ≡ Cancelled → receipt_tells r ≡ answers (cancelled ∷ 1 ∷ r.parts)
-unfolding receipt_tells outcome_tells
-cancelled_told r e = ap (λ (o : Outcome). outcome_tells o r.parts) e
+pub cancelled_told : {r : Result Receipt Refusal} {x : Receipt} → r ≡ Ok x → x.outcome ≡ Cancelled → receipt_tells r ≡ answers (cancelled ∷ 1 ∷ x.parts)
+unfolding tells_values outcome_values
+cancelled_told {x = x} a e = rw (a, e)
 
 -- NO CALL TELLS A NUMBER that is not in its table.
 pub the_numbers_of_a_verdict : (bundle : List ℕ) (why : Refusal) (us : List ℕ) → verdict_tells (verdict_of bundle) ≡ refuses why us → Among verdict_numbers why.number

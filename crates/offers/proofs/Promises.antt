@@ -12,6 +12,7 @@ use native.Mathlib.Omega.{arith}
 use lib.Dec.{eqb}
 use lib.ListN.{length, get_or, replicate}
 use borrow.Author.Tests.{le-leb}
+use Rattle.std.specs.Prelude.{Result, Ok, Err}
 use Rattle.common.specs.Lists.{every, any, sum, up_to}
 use Rattle.common.specs.Checks.{refuse}
 use Rattle.common.specs.declared.Refusal.{Refusal}
@@ -56,7 +57,7 @@ use Rattle.fares.specs.OneCard.{OneCard, base_fare}
 use Rattle.fares.specs.Figures as fares
 use Rattle.fares.specs.declared.Leg.{Leg}
 use Rattle.fares.specs.declared.Question.{Question}
-use Rattle.fares.specs.declared.Pricing.TheVariants.{Priced, Refused}
+use Rattle.fares.specs.declared.Quote.{Quote}
 use Rattle.fares.proofs.RoundLaws.{nothing_left}
 use Rattle.fares.proofs.LegLaws.{bound_most}
 use Rattle.fares.proofs.RecordMeaning.{rounded_only}
@@ -87,6 +88,7 @@ use Rattle.sales.specs.OneCard.{OneCardOps, base_after, base_sale, base_sale_wor
 use Rattle.sales.specs.History.{Number, Op, sale, empty_book, after, cancelled_in, booked_by, owed, is_in, is_number}
 use Rattle.sales.proofs.BalanceIsOwed.{stays_sound, balance_told, total_told}
 use Rattle.sales.proofs.InAnyBook.{book_balance, no_railway, book_total, sale_without_number, cancel_without_number, same_sale, other_sale, known_cancel, unknown_cancel, sale_when_full, sale_booked, sale_refused}
+use Rattle.sales.specs.declared.Receipt.{Receipt}
 use Rattle.sales.specs.declared.Outcome.TheVariants.{Cancelled, AlreadyCancelled}
 use Rattle.sales.specs.Figures.{Day}
 use Rattle.sales.proofs.Computed.{the_day}
@@ -95,9 +97,9 @@ use Rattle.sales.proofs.SentFirst.{always_meant, unknown_is_told, full_is_told, 
 use Rattle.sales.proofs.SentAgain.{told_first, refused_other, nothing_changes, cancel_told}
 use Rattle.sales.proofs.OneCard.{same_sale as sold-as-it-was, same_sale_words, same_cancel, same_cancel_words, same_balance, same_total}
 use Rattle.sales.proofs.OneCardHistory.{same_after, empty_before}
-use Rattle.sales.proofs.AnswersByCase.{not_booked_stays, not_cancelled_stays}
-use Rattle.offers.specs.Answers.{Told, answers, refuses, verdict_tells, pricing_tells, fare_tells, booked, already_booked, cancelled, already_cancelled, outcome_tells, receipt_tells, sum_tells}
-use Rattle.offers.proofs.Orders.{told_accepted, told_refused, told_priced, told_no_fare, told_booked, first_parts, booked_told, cancelled_told}
+use Rattle.sales.proofs.AnswersByCase.{not_booked_stays, not_cancelled_stays, refused_stays, refused_cancel_stays}
+use Rattle.offers.specs.Answers.{Told, answers, refuses, tells_values, one_value, verdict_tells, quote_values, fare_tells, booked, already_booked, cancelled, already_cancelled, outcome_values, receipt_tells, sum_tells}
+use Rattle.offers.proofs.Orders.{told_err, told_accepted, told_priced, told_booked, first_parts, booked_told, cancelled_told}
 
 -- DEMAND 2, a bundle. Its records are the whole ones that stand one after the other from its start, and there is one way to cut it so.
 pub the_records_of_a_bundle : (bundle : List ℕ) → Cut bundle (records_of bundle) (rest_of bundle)
@@ -111,17 +113,17 @@ pub accepted_keeps_the_rules : (bundle : List ℕ) (n : ℕ) → verdict_tells (
 accepted_keeps_the_rules bundle n e = accepted_good bundle n (told_accepted (verdict_of bundle) n e)
 
 pub keeping_the_rules_is_accepted : (bundle : List ℕ) (R : List Rec) → Good bundle R → verdict_tells (verdict_of bundle) ≡ answers (length R ∷ [])
-unfolding verdict_tells
+unfolding tells_values
 keeping_the_rules_is_accepted bundle R g = rw (good_accepted bundle R g)
 
 -- it is refused only if the record of that place breaks that rule and none before it breaks any, and if it does.
 pub a_refusal_names_the_first_fault : (bundle : List ℕ) (why : Refusal) (us : List ℕ) → verdict_tells (verdict_of bundle) ≡ refuses why us
     → Fault bundle (records_of bundle) (rest_of bundle) why.number why.place why.detail
-a_refusal_names_the_first_fault bundle why us e = refused_fault bundle why (told_refused (verdict_of bundle) why us e)
+a_refusal_names_the_first_fault bundle why us e = refused_fault bundle why (told_err 1 one_value (verdict_of bundle) e)
 
 pub the_first_fault_is_refused : (bundle : List ℕ) (R : List Rec) (rest : List ℕ) → Cut bundle R rest → (number place detail : ℕ)
     → Fault bundle R rest number place detail → verdict_tells (verdict_of bundle) ≡ refuses (refuse number place detail) (0 ∷ [])
-unfolding verdict_tells
+unfolding tells_values
 the_first_fault_is_refused bundle R rest c n p d f = rw (fault_refused bundle R rest c n p d f)
 
 -- A FIELD keeps its rule exactly if it says what it may, and A RECORD keeps its rules exactly if each of its fields does. What is read off it is what its bytes say.
@@ -204,7 +206,7 @@ a_fare_is_what_the_records_say bundle q fare parts e = fare_means bundle q fare 
 
 pub what_the_records_say_is_the_fare : (bundle : List ℕ) (R : List Rec) (q : Question) (fare : ℕ) (parts : List ℕ) → IsFare bundle R q fare parts
     → fare_tells (fare_of bundle q) ≡ answers (fare ∷ parts)
-unfolding fare_tells pricing_tells
+unfolding tells_values
 what_the_records_say_is_the_fare bundle R q fare parts f = rw (means_fare bundle R q fare parts f)
 
 -- SEVERAL CARDS. Of the records that apply to a leg it is permitted to take all with Y, in rising rating and code, or one with N. No choice that is permitted is
@@ -265,11 +267,11 @@ the_cards_of_a_question_differ q = (differ_means q, means_differ q)
 -- or a condition unread (15); and if that is so.
 pub a_refused_fare_says_why : (bundle : List ℕ) (q : Question) (why : Refusal) (us : List ℕ) → fare_tells (fare_of bundle q) ≡ refuses why us
     → NoFare bundle (records_of bundle) (rest_of bundle) q why.number why.place why.detail
-a_refused_fare_says_why bundle q why us e = no_fare_means bundle q why (told_no_fare bundle q why us e)
+a_refused_fare_says_why bundle q why us e = no_fare_means bundle q why (told_err 9 quote_values (fare_of bundle q) e)
 
 pub what_says_why_refuses_the_fare : (bundle : List ℕ) (R : List Rec) (rest : List ℕ) → Cut bundle R rest → (q : Question) (number place detail : ℕ)
     → NoFare bundle R rest q number place detail → fare_tells (fare_of bundle q) ≡ refuses (refuse number place detail) (replicate 9 0)
-unfolding fare_tells pricing_tells
+unfolding tells_values
 what_says_why_refuses_the_fare bundle R rest c q n p d f = rw (means_no_fare bundle R rest c q n p d f)
 
 -- An exact amount is rounded to one amount, as a record says; nothing to nothing, so that a discount of 100,000 leaves 0 in every mode.
@@ -344,43 +346,51 @@ the_cards_of_an_entry_are_counted = entry_cards
 module _ (book : List ℕ) (unsound : Sound book → ⊥) where
   pub an_unsound_book_sells_nothing : (till sequence : ℕ) (bundle : List ℕ) (q : Question)
       → receipt_tells (sale_answer book till sequence bundle q) ≡ refuses (refuse 21 0 0) (replicate 10 0)
-  unfolding receipt_tells outcome_tells
+  unfolding tells_values outcome_values
   an_unsound_book_sells_nothing till sequence bundle q = rw (unsound_sale book unsound till sequence bundle q)
 
   pub an_unsound_book_cancels_nothing : (till sequence : ℕ) → receipt_tells (cancel_answer book till sequence) ≡ refuses (refuse 21 0 0) (replicate 10 0)
-  unfolding receipt_tells outcome_tells
+  unfolding tells_values outcome_values
   an_unsound_book_cancels_nothing till sequence = rw (unsound_cancel book unsound till sequence)
 
   pub an_unsound_book_has_no_balance : (railway : ℕ) → sum_tells (balance_answer book railway) ≡ refuses (refuse 21 0 0) (0 ∷ [])
-  unfolding sum_tells
+  unfolding tells_values
   an_unsound_book_has_no_balance railway = rw (unsound_balance book unsound railway)
 
   pub an_unsound_book_has_no_total : sum_tells (total_answer book) ≡ refuses (refuse 21 0 0) (0 ∷ [])
-  unfolding sum_tells
+  unfolding tells_values
   an_unsound_book_has_no_total = rw (unsound_total book unsound)
 
 -- Only a newly booked sale and a first cancellation change a book, whatever is in it.
 pub only_a_booked_sale_changes : (book : List ℕ) (till sequence : ℕ) (bundle : List ℕ) (q : Question)
     → ((parts : List ℕ) → receipt_tells (sale_answer book till sequence bundle q) ≡ answers (booked ∷ 0 ∷ parts) → ⊥) → sale_words book till sequence bundle q ≡ book
-only_a_booked_sale_changes book till sequence bundle q n = not_booked_stays book till sequence bundle q (λ e. n _ (booked_told (sale_answer book till sequence bundle q) e))
+only_a_booked_sale_changes book till sequence bundle q n = by_answer (sale_answer book till sequence bundle q) refl
+  where
+    by_answer : (r : Result Receipt Refusal) → sale_answer book till sequence bundle q ≡ r → sale_words book till sequence bundle q ≡ book
+    by_answer (Ok receipt) a = not_booked_stays book till sequence bundle q a (λ e. n _ (booked_told a e))
+    by_answer (Err why) a = refused_stays book till sequence bundle q a
 
 pub only_a_first_cancellation_changes : (book : List ℕ) (till sequence : ℕ)
     → ((parts : List ℕ) → receipt_tells (cancel_answer book till sequence) ≡ answers (cancelled ∷ 1 ∷ parts) → ⊥) → cancel_words book till sequence ≡ book
-only_a_first_cancellation_changes book till sequence n = not_cancelled_stays book till sequence (λ e. n _ (cancelled_told (cancel_answer book till sequence) e))
+only_a_first_cancellation_changes book till sequence n = by_answer (cancel_answer book till sequence) refl
+  where
+    by_answer : (r : Result Receipt Refusal) → cancel_answer book till sequence ≡ r → cancel_words book till sequence ≡ book
+    by_answer (Ok receipt) a = not_cancelled_stays book till sequence a (λ e. n _ (cancelled_told a e))
+    by_answer (Err why) a = refused_cancel_stays book till sequence a
 
 -- In a sound book a balance is what its sales not cancelled owe the railway, leg by leg, and the total what they owe in all; only a railway 1 to 9999 has one.
 module _ (book : List ℕ) (sound : Sound book) where
   pub a_balance_of_a_sound_book : (railway : ℕ) → 1 ≤ railway → railway ≤ 9999
       → sum_tells (balance_answer book railway) ≡ answers (due_in (carried_by railway) (entries book) ∷ [])
-  unfolding sum_tells
+  unfolding tells_values
   a_balance_of_a_sound_book railway a b = rw (book_balance book sound railway a b)
 
   pub the_total_of_a_sound_book : sum_tells (total_answer book) ≡ answers (due_in any_leg (entries book) ∷ [])
-  unfolding sum_tells
+  unfolding tells_values
   the_total_of_a_sound_book = rw (book_total book sound)
 
   pub no_railway_no_balance : (railway : ℕ) → ((1 ≤ railway) × (railway ≤ 9999) → ⊥) → sum_tells (balance_answer book railway) ≡ refuses (refuse 11 0 0) (0 ∷ [])
-  unfolding sum_tells
+  unfolding tells_values
   no_railway_no_balance railway n = rw (no_railway book sound railway n)
 
   -- The total is the sum of the balances of railways 1 to 9999.
@@ -403,11 +413,11 @@ the_limits_of_a_sale_number n = (
 module _ (book : List ℕ) (sound : Sound book) (n : Number) where
   pub no_number_no_sale : is_number n ≡ false → (bundle : List ℕ) (q : Question)
       → receipt_tells (sale_answer book n.till n.sequence bundle q) ≡ refuses (refuse 22 0 0) (replicate 10 0)
-  unfolding receipt_tells outcome_tells
+  unfolding tells_values outcome_values
   no_number_no_sale e bundle q = rw (sale_without_number book sound n e bundle q)
 
   pub no_number_no_cancellation : is_number n ≡ false → receipt_tells (cancel_answer book n.till n.sequence) ≡ refuses (refuse 22 0 0) (replicate 10 0)
-  unfolding receipt_tells outcome_tells
+  unfolding tells_values outcome_values
   no_number_no_cancellation e = rw (cancel_without_number book sound n e)
 
   module _ (number : is_number n ≡ true) (i : ℕ) (inside : i < count_of book) (held : Holds book i n.till n.sequence) where
@@ -416,20 +426,20 @@ module _ (book : List ℕ) (sound : Sound book) (n : Number) where
 
     pub a_sale_in_the_book_is_told : (bundle : List ℕ) (q : Question) → SameQuestion (question_of entry.asked) q
         → receipt_tells (sale_answer book n.till n.sequence bundle q) ≡ answers (already_booked ∷ entry.status ∷ entry.parts)
-    unfolding receipt_tells outcome_tells
+    unfolding tells_values outcome_values
     a_sale_in_the_book_is_told bundle q e = rw (same_sale book sound n number i inside held bundle q e)
 
     pub its_number_is_not_used_again : (bundle : List ℕ) (q : Question) → (SameQuestion (question_of entry.asked) q → ⊥)
         → receipt_tells (sale_answer book n.till n.sequence bundle q) ≡ refuses (refuse 23 i 0) (replicate 10 0)
-    unfolding receipt_tells outcome_tells
+    unfolding tells_values outcome_values
     its_number_is_not_used_again bundle q e = rw (other_sale book sound n number i inside held bundle q e)
 
     pub a_cancellation_in_the_book_is_told : receipt_tells (cancel_answer book n.till n.sequence)
         ≡ answers (cond (eqb entry.status 0) cancelled already_cancelled ∷ 1 ∷ entry.parts)
-    unfolding receipt_tells outcome_tells
+    unfolding tells_values outcome_values
     a_cancellation_in_the_book_is_told = rw (known_cancel book sound n number i inside held) (go (eqb entry.status 0))
       where
-        go : (live : Bool) → outcome_tells (cond live Cancelled AlreadyCancelled) entry.parts ≡ answers (cond live cancelled already_cancelled ∷ 1 ∷ entry.parts)
+        go : (live : Bool) → answers (outcome_values (cond live Cancelled AlreadyCancelled) entry.parts) ≡ answers (cond live cancelled already_cancelled ∷ 1 ∷ entry.parts)
         go true = refl
         go false = refl
 
@@ -437,23 +447,23 @@ module _ (book : List ℕ) (sound : Sound book) (n : Number) where
 -- refused as that is: so also in a stored book that goes on with several cards.
 module _ (book : List ℕ) (sound : Sound book) (n : Number) (number : is_number n ≡ true) (nowhere : HeldNowhere book n.till n.sequence) where
   pub what_no_entry_holds_is_not_cancelled : receipt_tells (cancel_answer book n.till n.sequence) ≡ refuses (refuse 25 0 0) (replicate 10 0)
-  unfolding receipt_tells outcome_tells
+  unfolding tells_values outcome_values
   what_no_entry_holds_is_not_cancelled = rw (unknown_cancel book sound n number nowhere)
 
   module _ (bundle : List ℕ) (q : Question) where
     pub a_full_sound_book_takes_no_sale : 256 ≤ count_of book → receipt_tells (sale_answer book n.till n.sequence bundle q) ≡ refuses (refuse 24 0 0) (replicate 10 0)
-    unfolding receipt_tells outcome_tells
+    unfolding tells_values outcome_values
     a_full_sound_book_takes_no_sale f = rw (sale_when_full book sound n number nowhere bundle q f)
 
     module _ (room : count_of book < 256) where
-      pub a_sound_book_books_a_sale_with_its_fare : (fare_of bundle q).outcome ≡ Priced
-          → receipt_tells (sale_answer book n.till n.sequence bundle q) ≡ answers (booked ∷ 0 ∷ (fare_of bundle q).parts)
-      unfolding receipt_tells outcome_tells
-      a_sound_book_books_a_sale_with_its_fare e = rw (sale_booked book sound n number nowhere bundle q room e)
+      pub a_sound_book_books_a_sale_with_its_fare : (quote : Quote) → fare_of bundle q ≡ Ok quote
+          → receipt_tells (sale_answer book n.till n.sequence bundle q) ≡ answers (booked ∷ 0 ∷ quote.parts)
+      unfolding tells_values outcome_values
+      a_sound_book_books_a_sale_with_its_fare quote e = rw (sale_booked book sound n number nowhere bundle q room quote e)
 
-      pub a_sound_book_refuses_a_sale_as_its_fare : (why : Refusal) → (fare_of bundle q).outcome ≡ Refused why
+      pub a_sound_book_refuses_a_sale_as_its_fare : (why : Refusal) → fare_of bundle q ≡ Err why
           → receipt_tells (sale_answer book n.till n.sequence bundle q) ≡ refuses why (replicate 10 0)
-      unfolding receipt_tells outcome_tells
+      unfolding tells_values outcome_values
       a_sound_book_refuses_a_sale_as_its_fare why e = rw (sale_refused book sound n number nowhere bundle q room why e)
 
 -- A sound book stays sound, whatever sales and cancellations follow.
@@ -469,18 +479,18 @@ module _ (ops : List Op) where
   -- booking; and so are all together.
   pub a_balance_is_what_the_history_tells : (railway : ℕ) → 1 ≤ railway → railway ≤ 9999
       → sum_tells (balance_answer (after empty_book ops) railway) ≡ answers (owed (carried_by railway) [] ops ∷ [])
-  unfolding sum_tells
+  unfolding tells_values
   a_balance_is_what_the_history_tells railway a b = rw (balance_told ops railway a b)
 
   pub the_total_is_what_the_history_tells : sum_tells (total_answer (after empty_book ops)) ≡ answers (owed any_leg [] ops ∷ [])
-  unfolding sum_tells
+  unfolding tells_values
   the_total_is_what_the_history_tells = rw (total_told ops)
 
   -- A number that was never booked is unknown to a cancellation (25); its sale is refused after 256 bookings (24), and before is booked with the parts of its
   -- fare, or refused as that is.
   module _ (n : Number) (number : is_number n ≡ true) (new : is_in n (booked_by [] ops) ≡ false) where
     pub an_unknown_sale_is_not_cancelled : receipt_tells (cancel_answer (after empty_book ops) n.till n.sequence) ≡ refuses (refuse 25 0 0) (replicate 10 0)
-    unfolding receipt_tells outcome_tells
+    unfolding tells_values outcome_values
     an_unknown_sale_is_not_cancelled = rw (unknown_is_told ops n number new)
 
     module _ (bundle : List ℕ) (q : Question) where
@@ -488,16 +498,16 @@ module _ (ops : List Op) where
       told = receipt_tells (sale_answer (after empty_book ops) n.till n.sequence bundle q)
 
       pub a_full_book_takes_no_sale : 256 ≤ length (booked_by [] ops) → told ≡ refuses (refuse 24 0 0) (replicate 10 0)
-      unfolding receipt_tells outcome_tells
+      unfolding tells_values outcome_values
       a_full_book_takes_no_sale f = rw (full_is_told ops n number new bundle q f)
 
       module _ (room : length (booked_by [] ops) < 256) where
-        pub a_sale_is_booked_with_its_fare : (fare_of bundle q).outcome ≡ Priced → told ≡ answers (booked ∷ 0 ∷ (fare_of bundle q).parts)
-        unfolding receipt_tells outcome_tells
-        a_sale_is_booked_with_its_fare e = rw (first_is_booked ops n number new bundle q room e)
+        pub a_sale_is_booked_with_its_fare : (quote : Quote) → fare_of bundle q ≡ Ok quote → told ≡ answers (booked ∷ 0 ∷ quote.parts)
+        unfolding tells_values outcome_values
+        a_sale_is_booked_with_its_fare quote e = rw (first_is_booked ops n number new bundle q room quote e)
 
-        pub a_sale_is_refused_as_its_fare : (why : Refusal) → (fare_of bundle q).outcome ≡ Refused why → told ≡ refuses why (replicate 10 0)
-        unfolding receipt_tells outcome_tells
+        pub a_sale_is_refused_as_its_fare : (why : Refusal) → fare_of bundle q ≡ Err why → told ≡ refuses why (replicate 10 0)
+        unfolding tells_values outcome_values
         a_sale_is_refused_as_its_fare why e = rw (first_is_refused ops n number new bundle q room why e)
 
 -- A sale booked in any history and sent again after any other, with any bundle: the same question is told the very parts that it was told first, and
@@ -509,14 +519,15 @@ module _ (first : List Op) (n : Number) (bundle : List ℕ) (q : Question) (more
 
   pub sent_again_is_told_its_first_amounts : (bundle' : List ℕ) (q' : Question) → SameQuestion q q'
       → receipt_tells (sale_answer now n.till n.sequence bundle' q') ≡ answers (already_booked ∷ cond (cancelled_in n more) 1 0 ∷ parts)
-  unfolding receipt_tells outcome_tells
+  unfolding tells_values outcome_values
   sent_again_is_told_its_first_amounts bundle' q' e =
-      rw (told_first first n bundle q more (told_booked _ parts sold).0 bundle' q' e) (ap (λ x. answers (already_booked ∷ cond (cancelled_in n more) 1 0 ∷ x)) (first_parts _ _ _ bundle q parts sold))
+      let b = told_booked _ parts sold in
+      rw (told_first first n bundle q more b.1 b.2 bundle' q' e) (ap (λ x. answers (already_booked ∷ cond (cancelled_in n more) 1 0 ∷ x)) (first_parts _ _ _ bundle q parts sold))
 
   pub another_question_is_refused : (bundle' : List ℕ) (q' : Question) → (SameQuestion q q' → ⊥)
       → receipt_tells (sale_answer now n.till n.sequence bundle' q') ≡ refuses (refuse 23 (length (booked_by [] first)) 0) (replicate 10 0)
-  unfolding receipt_tells outcome_tells
-  another_question_is_refused bundle' q' e = rw (refused_other first n bundle q more (told_booked _ parts sold).0 bundle' q' e)
+  unfolding tells_values outcome_values
+  another_question_is_refused bundle' q' e = let b = told_booked _ parts sold in rw (refused_other first n bundle q more b.1 b.2 bundle' q' e)
 
   -- So is a question with another card in one of the four slots: the order of the cards is part of it, and 5 and 7 are not 7 and 5.
   pub another_card_is_refused : (bundle' : List ℕ) (q' : Question) (k : ℕ) → k < 4 → (card_at q k ≡ card_at q' k → ⊥)
@@ -530,14 +541,16 @@ module _ (first : List Op) (n : Number) (bundle : List ℕ) (q : Question) (more
       (λ e. let z : 5 ≡ 7 = sym (ap (λ cards. get_or cards 0 0) a) ∙ (e ∙ ap (λ cards. get_or cards 0 0) b) in absurd (omega (arith, z)))
 
   pub sent_again_changes_nothing : (bundle' : List ℕ) (q' : Question) → sale_words now n.till n.sequence bundle' q' ≡ now
-  sent_again_changes_nothing = nothing_changes first n bundle q more (told_booked _ parts sold).0
+  sent_again_changes_nothing = let b = told_booked _ parts sold in nothing_changes first n bundle q more b.1 b.2
 
   pub its_cancellation_tells_its_first_amounts : receipt_tells (cancel_answer now n.till n.sequence)
       ≡ answers (cond (cancelled_in n more) already_cancelled cancelled ∷ 1 ∷ parts)
-  unfolding receipt_tells outcome_tells
-  its_cancellation_tells_its_first_amounts = rw (cancel_told first n bundle q more (told_booked _ parts sold).0, first_parts _ _ _ bundle q parts sold) (go (cancelled_in n more))
+  unfolding tells_values outcome_values
+  its_cancellation_tells_its_first_amounts =
+      let b = told_booked _ parts sold in
+      rw (cancel_told first n bundle q more b.1 b.2, first_parts _ _ _ bundle q parts sold) (go (cancelled_in n more))
     where
-      go : (c : Bool) → outcome_tells (cond c AlreadyCancelled Cancelled) parts ≡ answers (cond c already_cancelled cancelled ∷ 1 ∷ parts)
+      go : (c : Bool) → answers (outcome_values (cond c AlreadyCancelled Cancelled) parts) ≡ answers (cond c already_cancelled cancelled ∷ 1 ∷ parts)
       go true = refl
       go false = refl
 

@@ -1,10 +1,11 @@
 -- THE PROMISES of the calls that read a book: how many sales it has, the sale at an entry, and the sale of a number.
 -- Assumes nothing.
 use Prim.Native.Nat.{ℕ, ◌≤◌, ◌<◌}
-use mathlib.Core.Path.{◌≡◌, refl}
+use mathlib.Core.Path.{◌≡◌, refl, sym, ◌∙◌}
 use mathlib.Core.Bool.{true, false}
-use mathlib.Core.List.{List, [], ◌∷◌, ◌++◌, flat_map}
+use mathlib.Core.List.{List, [], ◌∷◌, ◌++◌}
 use lib.ListN.{length, get_or, replicate}
+use Rattle.std.specs.Prelude.{Ok}
 use Rattle.common.specs.Checks.{refuse}
 use Rattle.fares.specs.declared.Question.{Question}
 use Rattle.book.specs.Words.{count_of, entry_at}
@@ -12,12 +13,13 @@ use Rattle.book.specs.Meaning.{Sound, Holds, HeldNowhere}
 use Rattle.book.specs.SameQuestion.{SameQuestion}
 use Rattle.sales.specs.Sales.{sale_answer}
 use Rattle.sales.specs.Reading.{booking_at, count_answer, entry_answer, find_answer, IsSale}
+use Rattle.sales.specs.declared.Booking.{Booking}
 use Rattle.sales.specs.History.{Number, no_number, Op, sale, empty_book, after, cancelled_in, booked_by, is_in, is_number}
 use Rattle.sales.proofs.Unsound.{unsound_count, unsound_entry, unsound_find}
 use Rattle.sales.proofs.InAnyBook.{book_count, sale_at, no_sale_at, find_without_number, same_sale, known_find, unknown_find}
 use Rattle.sales.proofs.SentFirst.{count_is_told, number_is_told, nothing_behind, unknown_is_not_found}
 use Rattle.sales.proofs.SentAgain.{found_again, listed_again}
-use Rattle.offers.specs.Answers.{Told, answers, refuses, booked, already_booked, outcome_tells, receipt_tells, tally_tells, booking_values, booking_width, lookup_tells, booking_tells}
+use Rattle.offers.specs.Answers.{Told, answers, refuses, tells_values, booked, already_booked, outcome_values, receipt_tells, tally_tells, booking_values, booking_width, booking_tells}
 use Rattle.offers.proofs.Orders.{told_booked, first_parts}
 
 -- refused, with every value zero
@@ -27,52 +29,53 @@ no_sale number = refuses (refuse number 0 0) (replicate booking_width 0)
 -- Nothing is read of an unsound book.
 module _ (book : List ℕ) (unsound : Sound book → ⊥) where
   pub an_unsound_book_is_not_counted : tally_tells (count_answer book) ≡ refuses (refuse 21 0 0) (0 ∷ [])
-  unfolding tally_tells
+  unfolding tells_values
   an_unsound_book_is_not_counted = rw (unsound_count book unsound)
 
   pub an_unsound_book_lists_nothing : (i : ℕ) → booking_tells (entry_answer book i) ≡ no_sale 21
-  unfolding booking_tells lookup_tells flat_map
+  unfolding tells_values
   an_unsound_book_lists_nothing i = rw (unsound_entry book unsound i)
 
   pub nothing_is_found_in_an_unsound_book : (till sequence : ℕ) → booking_tells (find_answer book till sequence) ≡ no_sale 21
-  unfolding booking_tells lookup_tells flat_map
+  unfolding tells_values
   nothing_is_found_in_an_unsound_book till sequence = rw (unsound_find book unsound till sequence)
 
 -- Of a sound one its count is told, and the sale at each entry before that; from there on there is none (25).
 module _ (book : List ℕ) (sound : Sound book) where
   pub a_sound_book_is_counted : tally_tells (count_answer book) ≡ answers (count_of book ∷ [])
-  unfolding tally_tells
+  unfolding tells_values
   a_sound_book_is_counted = rw (book_count book sound)
 
   pub an_entry_is_listed : (i : ℕ) → i < count_of book → booking_tells (entry_answer book i) ≡ answers (booking_values (booking_at i (entry_at book i)))
-  unfolding booking_tells lookup_tells
+  unfolding tells_values
   an_entry_is_listed i l = rw (sale_at book sound i l)
 
   pub nothing_is_listed_behind_the_entries : (i : ℕ) → count_of book ≤ i → booking_tells (entry_answer book i) ≡ no_sale 25
-  unfolding booking_tells lookup_tells flat_map
+  unfolding tells_values
   nothing_is_listed_behind_the_entries i l = rw (no_sale_at book sound i l)
 
   -- A number outside its limits is refused with 22, and one that no entry holds with 25. One that entry i holds is told that entry; and what is told so is what its
   -- sale is told if it is sent again.
   module _ (n : Number) where
     pub no_number_nothing_found : is_number n ≡ false → booking_tells (find_answer book n.till n.sequence) ≡ no_sale 22
-    unfolding booking_tells lookup_tells flat_map
+    unfolding tells_values
     no_number_nothing_found e = rw (find_without_number book sound n e)
 
     pub what_no_entry_holds_is_not_found : is_number n ≡ true → HeldNowhere book n.till n.sequence → booking_tells (find_answer book n.till n.sequence) ≡ no_sale 25
-    unfolding booking_tells lookup_tells flat_map
+    unfolding tells_values
     what_no_entry_holds_is_not_found number nowhere = rw (unknown_find book sound n number nowhere)
 
     module _ (number : is_number n ≡ true) (i : ℕ) (inside : i < count_of book) (held : Holds book i n.till n.sequence) where
       pub what_an_entry_holds_is_found : booking_tells (find_answer book n.till n.sequence) ≡ answers (booking_values (booking_at i (entry_at book i)))
-      unfolding booking_tells lookup_tells
+      unfolding tells_values
       what_an_entry_holds_is_found = rw (known_find book sound n number i inside held)
 
-      pub what_is_found_is_told_again : (bundle : List ℕ) → let found = find_answer book n.till n.sequence in
-          receipt_tells (sale_answer book n.till n.sequence bundle found.question) ≡ answers (already_booked ∷ found.status ∷ found.parts)
-      unfolding receipt_tells outcome_tells
-      what_is_found_is_told_again bundle =
-          rw (known_find book sound n number i inside held, same_sale book sound n number i inside held bundle _ the_same)
+      pub what_is_found_is_told_again : (bundle : List ℕ) (found : Booking) → find_answer book n.till n.sequence ≡ Ok found
+          → receipt_tells (sale_answer book n.till n.sequence bundle found.question) ≡ answers (already_booked ∷ found.status ∷ found.parts)
+      unfolding tells_values outcome_values
+      what_is_found_is_told_again bundle found e =
+          let x : booking_at i (entry_at book i) ≡ found = let h = sym (known_find book sound n number i inside held) ∙ e in cc in
+          rw (← x, same_sale book sound n number i inside held bundle _ the_same)
         where
           the_same : {q : Question} → SameQuestion q q
           the_same = record { offer = refl; day = refl; persons = refl; cards = λ k l. refl; count = refl; railways = λ k l. refl; fares = λ k l. refl }
@@ -84,19 +87,19 @@ module _ (ops : List Op) where
   book = after empty_book ops
 
   pub as_many_are_counted_as_were_booked : tally_tells (count_answer book) ≡ answers (length (booked_by [] ops) ∷ [])
-  unfolding tally_tells
+  unfolding tells_values
   as_many_are_counted_as_were_booked = rw (count_is_told ops)
 
   pub they_are_listed_as_they_were_booked : (k : ℕ) → k < length (booked_by [] ops) → let n = get_or (booked_by [] ops) k no_number in
-      ((entry_answer book k).till ≡ n.till) × ((entry_answer book k).sequence ≡ n.sequence)
+      (s : Booking) × (entry_answer book k ≡ Ok s) × (s.till ≡ n.till) × (s.sequence ≡ n.sequence)
   they_are_listed_as_they_were_booked = number_is_told ops
 
   pub no_more_are_listed_than_were_booked : (k : ℕ) → length (booked_by [] ops) ≤ k → booking_tells (entry_answer book k) ≡ no_sale 25
-  unfolding booking_tells lookup_tells flat_map
+  unfolding tells_values
   no_more_are_listed_than_were_booked k l = rw (nothing_behind ops k l)
 
   pub a_number_never_booked_is_not_found : (n : Number) → is_number n ≡ true → is_in n (booked_by [] ops) ≡ false → booking_tells (find_answer book n.till n.sequence) ≡ no_sale 25
-  unfolding booking_tells lookup_tells flat_map
+  unfolding tells_values
   a_number_never_booked_is_not_found n number new = rw (unknown_is_not_found ops n number new)
 
 -- A sale booked in any history is found after any other: at its place among the sales booked, with its number, the question that was asked, the very parts that it
@@ -107,7 +110,9 @@ module _ (first : List Op) (n : Number) (bundle : List ℕ) (q : Question) (more
   later = after empty_book (first ++ (sale n bundle q ∷ more))
 
   pub a_sale_booked_is_found_as_it_was_sold : IsSale (find_answer later n.till n.sequence) (length (booked_by [] first)) n q parts (cancelled_in n more)
-  a_sale_booked_is_found_as_it_was_sold = rw (first_parts _ _ _ bundle q parts sold) at (found_again first n bundle q more (told_booked _ parts sold).0)
+  a_sale_booked_is_found_as_it_was_sold =
+      let b = told_booked _ parts sold in
+      rw (first_parts _ _ _ bundle q parts sold) at (found_again first n bundle q more b.1 b.2)
 
   pub the_list_has_it_at_its_place : entry_answer later (length (booked_by [] first)) ≡ find_answer later n.till n.sequence
-  the_list_has_it_at_its_place = listed_again first n bundle q more (told_booked _ parts sold).0
+  the_list_has_it_at_its_place = let b = told_booked _ parts sold in listed_again first n bundle q more b.1 b.2

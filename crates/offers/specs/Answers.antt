@@ -1,44 +1,40 @@
 -- What each answer tells, in the numbers and values of document 01, case by case. The promises and the calls for C use these.
 -- Assumes nothing.
-use Rattle.std.specs.Prelude.{ℕ, ◌≡◌, replicate}
+use Rattle.std.specs.Prelude.{ℕ, ◌≡◌, replicate, Result, Ok, Err}
 use mathlib.Core.List.{List, [], ◌∷◌, ◌++◌, flat_map}
 use Rattle.common.specs.Checks.{Check, AllPass, First}
 use Rattle.common.specs.declared.Refusal.{Refusal}
-use Rattle.bundle.specs.declared.Judgement.{Judgement}
-use Rattle.bundle.specs.declared.Judgement.TheVariants.{Accepted, Refused}
 use Rattle.fares.specs.declared.Leg.{Leg}
 use Rattle.fares.specs.declared.Question.{Question}
 use Rattle.fares.specs.declared.Quote.{Quote}
-use Rattle.fares.specs.declared.Pricing.{Pricing}
-use Rattle.fares.specs.declared.Pricing.TheVariants.{Priced, Refused as NoFare}
 use Rattle.sales.specs.declared.Outcome.{Outcome}
-use Rattle.sales.specs.declared.Outcome.TheVariants.{Booked, AlreadyBooked, Cancelled, AlreadyCancelled, Refused as NoEntry}
+use Rattle.sales.specs.declared.Outcome.TheVariants.{Booked, AlreadyBooked, Cancelled, AlreadyCancelled}
 use Rattle.sales.specs.declared.Receipt.{Receipt}
 use Rattle.sales.specs.declared.Booking.{Booking}
-use Rattle.sales.specs.declared.Lookup.{Lookup}
-use Rattle.sales.specs.declared.Lookup.TheVariants.{Found, Refused as NotFound}
-use Rattle.sales.specs.declared.Sum.{Sum}
-use Rattle.sales.specs.declared.Sum.TheVariants.{Amount, Refused as NoSum}
-use Rattle.sales.specs.declared.Tally.{Tally}
-use Rattle.sales.specs.declared.Tally.TheVariants.{Entries, Refused as NoCount}
 
 -- an answer with its values, or a refusal (number, place and detail) and the values that go with it
 pub data Told : Type 0 where
   answers : List ℕ → Told
   refuses : Refusal → List ℕ → Told
 
+-- WHAT AN ANSWER OF n VALUES TELLS: these, or a refusal. "Every refusal answers with all amounts zero"
+unfoldable pub tells_values : {A : Type 0} → ℕ → (A → List ℕ) → Result A Refusal → Told
+tells_values n values (Ok a) = answers (values a)
+tells_values n values (Err why) = refuses why (replicate n 0)
+
+abbrev pub one_value : ℕ → List ℕ
+one_value n = n ∷ []
+
 -- A VERDICT: the count of the records.
-unfoldable pub verdict_tells : Judgement → Told
-verdict_tells (Accepted n) = answers (n ∷ [])
-verdict_tells (Refused why) = refuses why (0 ∷ [])
+abbrev pub verdict_tells : Result ℕ Refusal → Told
+verdict_tells r = tells_values 1 one_value r
 
 -- A FARE: the fare and its eight parts.
-unfoldable pub pricing_tells : Pricing → List ℕ → Told
-pricing_tells Priced amounts = answers amounts
-pricing_tells (NoFare why) amounts = refuses why amounts
+abbrev pub quote_values : Quote → List ℕ
+quote_values r = r.fare ∷ r.parts
 
-unfoldable pub fare_tells : Quote → Told
-fare_tells r = pricing_tells r.outcome (r.fare ∷ r.parts)
+abbrev pub fare_tells : Result Quote Refusal → Told
+fare_tells r = tells_values 9 quote_values r
 
 -- A SALE OR A CANCEL: what came of it, whether the sale is now cancelled, and its eight parts.
 abbrev pub refused : ℕ
@@ -56,25 +52,25 @@ cancelled = 3
 abbrev pub already_cancelled : ℕ
 already_cancelled = 4
 
-unfoldable pub outcome_tells : Outcome → List ℕ → Told
-outcome_tells Booked parts = answers (booked ∷ 0 ∷ parts)
-outcome_tells (AlreadyBooked status) parts = answers (already_booked ∷ status ∷ parts)
-outcome_tells Cancelled parts = answers (cancelled ∷ 1 ∷ parts)
-outcome_tells AlreadyCancelled parts = answers (already_cancelled ∷ 1 ∷ parts)
-outcome_tells (NoEntry why) parts = refuses why (refused ∷ 0 ∷ parts)
+unfoldable pub outcome_values : Outcome → List ℕ → List ℕ
+outcome_values Booked parts = booked ∷ 0 ∷ parts
+outcome_values (AlreadyBooked status) parts = already_booked ∷ status ∷ parts
+outcome_values Cancelled parts = cancelled ∷ 1 ∷ parts
+outcome_values AlreadyCancelled parts = already_cancelled ∷ 1 ∷ parts
 
-unfoldable pub receipt_tells : Receipt → Told
-receipt_tells r = outcome_tells r.outcome r.parts
+abbrev pub receipt_values : Receipt → List ℕ
+receipt_values r = outcome_values r.outcome r.parts
+
+abbrev pub receipt_tells : Result Receipt Refusal → Told
+receipt_tells r = tells_values 10 receipt_values r
 
 -- A BALANCE OR THE TOTAL: the amount.
-unfoldable pub sum_tells : Sum → Told
-sum_tells (Amount n) = answers (n ∷ [])
-sum_tells (NoSum why) = refuses why (0 ∷ [])
+abbrev pub sum_tells : Result ℕ Refusal → Told
+sum_tells r = tells_values 1 one_value r
 
 -- HOW MANY SALES a book has: the count.
-unfoldable pub tally_tells : Tally → Told
-tally_tells (Entries n) = answers (n ∷ [])
-tally_tells (NoCount why) = refuses why (0 ∷ [])
+abbrev pub tally_tells : Result ℕ Refusal → Told
+tally_tells r = tells_values 1 one_value r
 
 -- A SALE READ: its entry, till, sequence and status, the values of its question, and its eight parts; 36 values.
 abbrev pub leg_values : Leg → List ℕ
@@ -89,12 +85,8 @@ booking_values r = r.entry ∷ r.till ∷ r.sequence ∷ r.status ∷ (question_
 abbrev pub booking_width : ℕ
 booking_width = 36
 
-unfoldable pub lookup_tells : Lookup → List ℕ → Told
-lookup_tells Found values = answers values
-lookup_tells (NotFound why) values = refuses why values
-
-unfoldable pub booking_tells : Booking → Told
-booking_tells r = lookup_tells r.outcome (booking_values r)
+abbrev pub booking_tells : Result Booking Refusal → Told
+booking_tells r = tells_values booking_width booking_values r
 
 -- AN ANSWER FOLLOWS AN ORDER OF CHECKS: it is refused by the first that fails, with all n values zero, and by no other; where none fails it is
 -- answered with the values vs, and with no other.

@@ -1,7 +1,7 @@
 // The front door: what the engine answers, on one page.
 //
 // Every call checks all that it is lent, in the order of the scope document, and is refused by the first check that fails: with the check's number,
-// place and detail, with every amount zero, and with no word of the book changed. Places and details that are not named are 0.
+// place and detail and no amount, and with no word of the book changed. Places and details that are not named are 0.
 //
 //   verdict   1  the bundle has more than 1,048,576 bytes
 //             2  a mark is unknown, or one byte is left: record
@@ -45,27 +45,24 @@ ghost use Rattle.sales.specs.Reading.{count_answer, entry_answer, find_answer};
 // Why a call is refused: number, place and detail.
 pub use common::Refusal;
 
-// The verdict on a bundle: accepted with the number of its records, or refused by the first fault.
-pub use bundle::Judgement;
+// What is asked of a fare, and what is answered: the parts and their sum.
+pub use fares::{Leg, Question, Quote};
 
-// What is asked of a fare, and what is answered: the parts and their sum, or a refusal with all amounts zero.
-pub use fares::{Leg, Pricing, Question, Quote};
+// What a sale or a cancellation answers: what came of it and the sale's parts.
+pub use sales::{Outcome, Receipt};
 
-// What a sale or a cancellation answers: what came of it and the sale's parts; and what a balance or the total is.
-pub use sales::{Outcome, Receipt, Sum};
+// What is read of a book: a sale as it has it.
+pub use sales::Booking;
 
-// What is read of a book: how many sales it has, and a sale as it has it.
-pub use sales::{Booking, Lookup, Tally};
-
-// Judges a bundle of any length.
-pub fn verdict(bundle: &[u8]) -> Judgement
+// Judges a bundle of any length: how many records it has, or the first fault.
+pub fn verdict(bundle: &[u8]) -> Result<usize, Refusal>
     ensures { result ≡ verdict_of bundle.now }
 {
     bundle::verdict(bundle)
 }
 
 // Prices a ticket, leg by leg.
-pub fn fare(bundle: &[u8], question: Question) -> Quote
+pub fn fare(bundle: &[u8], question: Question) -> Result<Quote, Refusal>
     ensures { result ≡ fare_of bundle.now question }
 {
     fares::fare(bundle, question)
@@ -78,7 +75,7 @@ pub fn sale(
     till: u32,
     sequence: u64,
     question: Question,
-) -> Receipt
+) -> Result<Receipt, Refusal>
     ensures value { result ≡ sale_answer book.old till sequence bundle.now question }
     ensures book_after { book.new ≡ sale_words book.old till sequence bundle.now question }
 {
@@ -86,7 +83,7 @@ pub fn sale(
 }
 
 // Cancels a sale; its number stays in the book.
-pub fn cancel(book: &mut [u32], till: u32, sequence: u64) -> Receipt
+pub fn cancel(book: &mut [u32], till: u32, sequence: u64) -> Result<Receipt, Refusal>
     ensures value { result ≡ cancel_answer book.old till sequence }
     ensures book_after { book.new ≡ cancel_words book.old till sequence }
 {
@@ -94,35 +91,35 @@ pub fn cancel(book: &mut [u32], till: u32, sequence: u64) -> Receipt
 }
 
 // What a railway is owed.
-pub fn balance(book: &[u32], railway: u32) -> Sum
+pub fn balance(book: &[u32], railway: u32) -> Result<u64, Refusal>
     ensures { result ≡ balance_answer book.now railway }
 {
     sales::balance(book, railway)
 }
 
 // What all railways are owed.
-pub fn total(book: &[u32]) -> Sum
+pub fn total(book: &[u32]) -> Result<u64, Refusal>
     ensures { result ≡ total_answer book.now }
 {
     sales::total(book)
 }
 
 // How many sales the book has, cancelled ones too.
-pub fn count(book: &[u32]) -> Tally
+pub fn count(book: &[u32]) -> Result<usize, Refusal>
     ensures { result ≡ count_answer book.now }
 {
     sales::reading::count(book)
 }
 
 // The sale at an entry, in the order of booking.
-pub fn entry(book: &[u32], entry: usize) -> Booking
+pub fn entry(book: &[u32], entry: usize) -> Result<Booking, Refusal>
     ensures { result ≡ entry_answer book.now entry }
 {
     sales::reading::entry(book, entry)
 }
 
 // The sale that has a number. Nothing is booked.
-pub fn find(book: &[u32], till: u32, sequence: u64) -> Booking
+pub fn find(book: &[u32], till: u32, sequence: u64) -> Result<Booking, Refusal>
     ensures { result ≡ find_answer book.now till sequence }
 {
     sales::reading::find(book, till, sequence)
