@@ -6,6 +6,7 @@ use mathlib.Core.List.{List}
 use mathlib.Core.Bool.{false}
 use native.Mathlib.Omega.{arith}
 use lib.Dec.{eqb}
+use Rattle.std.specs.Prelude.{Result, Ok, Err}
 use Rattle.common.specs.Lists.{any}
 use Rattle.common.specs.declared.Refusal.{Refusal}
 use Rattle.common.proofs.Tests.{never}
@@ -16,13 +17,11 @@ use Rattle.sales.specs.Sales.{sale_answer, cancel_answer}
 use Rattle.sales.specs.Balances.{balance_answer, total_answer}
 use Rattle.sales.specs.Reading.{count_answer, entry_answer, find_answer}
 use Rattle.sales.specs.declared.Booking.{Booking}
-use Rattle.sales.specs.declared.Lookup.{Lookup}
-use Rattle.sales.specs.declared.Lookup.TheVariants.{Found, Refused}
-use Rattle.offers.specs.Answers.{Told, answers, refuses, verdict_tells, fare_tells, receipt_tells, sum_tells, tally_tells, booking_values, lookup_tells, booking_tells}
+use Rattle.offers.specs.Answers.{Told, answers, refuses, verdict_tells, fare_tells, receipt_tells, sum_tells, tally_tells, tells_values, booking_tells}
 use Rattle.offers.specs.Numbers.{Among, verdict_numbers, fare_numbers, sale_numbers, cancel_numbers, balance_numbers, total_numbers, count_numbers, entry_numbers, find_numbers}
 use Rattle.offers.proofs.Orders.{the_numbers_of_a_verdict, the_numbers_of_a_fare, the_numbers_of_a_sale}
 use Rattle.offers.proofs.Orders.{the_numbers_of_a_cancellation, the_numbers_of_a_balance, the_numbers_of_a_total, the_numbers_of_a_count, the_numbers_of_an_entry, the_numbers_of_a_find}
-use Rattle.edge.specs.Replies.{refusal_in, judgement_reply, quote_reply, receipt_reply, sum_reply, tally_reply, refusal_of, booking_reply}
+use Rattle.edge.specs.Replies.{refusal_in, judgement_reply, quote_reply, receipt_reply, sum_reply, tally_reply, booking_reply}
 use Rattle.edge.specs.ZeroNumber.{ZeroIfAnswered}
 
 -- where 0 is not among the numbers that a refusal can have
@@ -64,18 +63,15 @@ unfolding tally_reply any
 zero_if_counted book = by_number count_numbers refl _ (the_numbers_of_a_count book)
 
 -- the refusal that a reply for a sale has is the one that is told
-told_refusal : (b : Booking) → (refusal_of b.outcome).number ≡ (refusal_in (booking_tells b)).number
-unfolding booking_tells lookup_tells
-told_refusal b = by_outcome b.outcome
-  where
-    by_outcome : (o : Lookup) → (refusal_of o).number ≡ (refusal_in (lookup_tells o (booking_values b))).number
-    by_outcome Found = refl
-    by_outcome (Refused why) = refl
+told_refusal : (b : Result Booking Refusal) → (booking_reply b).number ≡ (refusal_in (booking_tells b)).number
+unfolding booking_reply tells_values
+told_refusal (Ok sale) = refl
+told_refusal (Err why) = refl
 
 pub zero_if_listed : (book : List ℕ) (i : ℕ) → let b = entry_answer book i in ZeroIfAnswered (booking_reply b).number (booking_tells b)
-unfolding booking_reply any
+unfolding any
 zero_if_listed book i = rw (told_refusal (entry_answer book i)) (by_number entry_numbers refl _ (the_numbers_of_an_entry book i))
 
 pub zero_if_found : (book : List ℕ) (till sequence : ℕ) → let b = find_answer book till sequence in ZeroIfAnswered (booking_reply b).number (booking_tells b)
-unfolding booking_reply any
+unfolding any
 zero_if_found book till sequence = rw (told_refusal (find_answer book till sequence)) (by_number find_numbers refl _ (the_numbers_of_a_find book till sequence))

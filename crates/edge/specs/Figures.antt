@@ -1,14 +1,12 @@
 -- What C gets, in figures: each value of a reply is that of its name, for a refusal and for an answer.
 -- Assumes nothing.
-use Rattle.std.specs.Prelude.{ℕ, ◌≡◌, List, [], ◌∷◌, replicate}
+use Rattle.std.specs.Prelude.{ℕ, ◌≡◌, List, [], ◌∷◌, replicate, Ok, Err}
 use Rattle.common.specs.Checks.{refuse}
 use Rattle.offers.specs.Answers.{Told, answers, refuses, booked, already_booked}
 use Rattle.fares.specs.Samples.{leg, ticket}
 use Rattle.fares.specs.declared.Question.{Question}
-use Rattle.sales.specs.Reading.{no_question, no_booking}
 use Rattle.sales.specs.declared.Booking.{Booking}
-use Rattle.sales.specs.declared.Lookup.TheVariants.{Found}
-use Rattle.edge.specs.Replies.{judgement_reply, quote_reply, receipt_reply, sum_reply, tally_reply, booking_reply}
+use Rattle.edge.specs.Replies.{judgement_reply, quote_reply, receipt_reply, sum_reply, tally_reply, no_question, booking_reply}
 
 -- a refusal by 7 at record 5, detail 3, with so many values; the parts of two legs
 abbrev pub refused : ℕ → Told
@@ -22,7 +20,7 @@ abbrev pub asked : Question
 asked = ticket 3 [] 2 (leg 1185 1010 ∷ leg 1181 500 ∷ [])
 
 abbrev pub sold : Booking
-sold = record { outcome = Found; entry = 3; till = 7; sequence = 12; question = asked; parts = parts; status = 1 }
+sold = record { entry = 3; till = 7; sequence = 12; question = asked; parts = parts; status = 1 }
 
 pub record Replies : Type 0 where
   pub no_verdict : judgement_reply (refused 1) ≡ record { number = 7; place = 5; detail = 3; records = 0 }
@@ -36,6 +34,6 @@ pub record Replies : Type 0 where
   pub sum : sum_reply (answers (3774 ∷ [])) ≡ record { number = 0; place = 0; detail = 0; amount = 3774 }
   pub no_tally : tally_reply (refused 1) ≡ record { number = 7; place = 5; detail = 3; entries = 0 }
   pub tally : tally_reply (answers (2 ∷ [])) ≡ record { number = 0; place = 0; detail = 0; entries = 2 }
-  pub no_booking_told : booking_reply (no_booking (refuse 25 0 0))
+  pub no_booking_told : booking_reply (Err (refuse 25 0 0))
       ≡ record { number = 25; place = 0; detail = 0; entry = 0; sequence = 0; till = 0; status = 0; question = no_question; parts = replicate 8 0 }
-  pub booking : booking_reply sold ≡ record { number = 0; place = 0; detail = 0; entry = 3; sequence = 12; till = 7; status = 1; question = asked; parts = parts }
+  pub booking : booking_reply (Ok sold) ≡ record { number = 0; place = 0; detail = 0; entry = 3; sequence = 12; till = 7; status = 1; question = asked; parts = parts }

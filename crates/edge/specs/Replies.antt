@@ -1,12 +1,12 @@
 -- The structs that C gets for an answer: number, place and detail, and the values in their order.
 -- Assumes nothing.
-use Rattle.std.specs.Prelude.{ℕ, List, get_or, drop}
+use Rattle.std.specs.Prelude.{ℕ, List, get_or, drop, replicate, Result, Ok, Err}
 use Rattle.common.specs.Checks.{refuse}
 use Rattle.common.specs.declared.Refusal.{Refusal}
 use Rattle.offers.specs.Answers.{Told, answers, refuses}
 use Rattle.sales.specs.declared.Booking.{Booking}
-use Rattle.sales.specs.declared.Lookup.{Lookup}
-use Rattle.sales.specs.declared.Lookup.TheVariants.{Found, Refused}
+use Rattle.fares.specs.Question.{no_leg}
+use Rattle.fares.specs.declared.Question.{Question}
 use Rattle.edge.specs.declared.BookingReply.{BookingReply}
 use Rattle.edge.specs.declared.JudgementReply.{JudgementReply}
 use Rattle.edge.specs.declared.QuoteReply.{QuoteReply}
@@ -69,20 +69,30 @@ tally_reply t = record {
   entries = value_at 0 t;
 }
 
--- A sale that is read is told by its fields, as the question is a struct in it.
-abbrev pub refusal_of : Lookup → Refusal
-refusal_of Found = refuse 0 0 0
-refusal_of (Refused why) = why
+-- A sale that is read is told by its fields, as the question is a struct in it; a refusal has every value zero.
+abbrev pub no_question : Question
+no_question = record { offer = 0; day = 0; persons = 0; cards = replicate 4 0; count = 0; legs = replicate 8 no_leg }
 
-unfoldable pub booking_reply : Booking → BookingReply
-booking_reply b = record {
-  number = (refusal_of b.outcome).number;
-  place = (refusal_of b.outcome).place;
-  detail = (refusal_of b.outcome).detail;
+unfoldable pub booking_reply : Result Booking Refusal → BookingReply
+booking_reply (Ok b) = record {
+  number = 0;
+  place = 0;
+  detail = 0;
   entry = b.entry;
   sequence = b.sequence;
   till = b.till;
   status = b.status;
   question = b.question;
   parts = b.parts;
+}
+booking_reply (Err why) = record {
+  number = why.number;
+  place = why.place;
+  detail = why.detail;
+  entry = 0;
+  sequence = 0;
+  till = 0;
+  status = 0;
+  question = no_question;
+  parts = replicate 8 0;
 }

@@ -6,4 +6,4 @@ use Rattle.edge.specs.Replies.{receipt_reply}
 use Rattle.edge.proofs.offers_cancel.Goals as goal
 
 pub returns-clause-value : goal.returns-clause-value
-returns-clause-value c = c.flatten_receipt.ensures ∙ ap (λ a. receipt_reply (receipt_tells a)) c.cancel.ensures.value
+returns-clause-value c = c.into.ensures ∙ ap (λ a. receipt_reply (receipt_tells a)) c.cancel.ensures.value

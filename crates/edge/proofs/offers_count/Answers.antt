@@ -6,4 +6,4 @@ use Rattle.edge.specs.Replies.{tally_reply}
 use Rattle.edge.proofs.offers_count.Goals as goal
 
 pub returns : goal.returns
-returns c = c.flatten_tally.ensures ∙ ap (λ a. tally_reply (tally_tells a)) c.count.ensures
+returns c = c.into.ensures ∙ ap (λ a. tally_reply (tally_tells a)) c.count.ensures

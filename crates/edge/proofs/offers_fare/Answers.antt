@@ -6,4 +6,4 @@ use Rattle.edge.specs.Replies.{quote_reply}
 use Rattle.edge.proofs.offers_fare.Goals as goal
 
 pub returns : goal.returns
-returns c = c.flatten_quote.ensures ∙ ap (λ a. quote_reply (fare_tells a)) c.fare.ensures
+returns c = c.into.ensures ∙ ap (λ a. quote_reply (fare_tells a)) c.fare.ensures

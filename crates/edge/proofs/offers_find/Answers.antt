@@ -5,4 +5,4 @@ use Rattle.edge.specs.Replies.{booking_reply}
 use Rattle.edge.proofs.offers_find.Goals as goal
 
 pub returns : goal.returns
-returns c = c.flatten_booking.ensures ∙ ap booking_reply c.find.ensures
+returns c = c.into.ensures ∙ ap booking_reply c.find.ensures

@@ -6,4 +6,4 @@ use Rattle.edge.specs.Replies.{sum_reply}
 use Rattle.edge.proofs.offers_total.Goals as goal
 
 pub returns : goal.returns
-returns c = c.flatten_sum.ensures ∙ ap (λ a. sum_reply (sum_tells a)) c.total.ensures
+returns c = c.into.ensures ∙ ap (λ a. sum_reply (sum_tells a)) c.total.ensures

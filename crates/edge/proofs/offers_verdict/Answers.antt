@@ -6,4 +6,4 @@ use Rattle.edge.specs.Replies.{judgement_reply}
 use Rattle.edge.proofs.offers_verdict.Goals as goal
 
 pub returns : goal.returns
-returns c = c.flatten_judgement.ensures ∙ ap (λ a. judgement_reply (verdict_tells a)) c.verdict.ensures
+returns c = c.into.ensures ∙ ap (λ a. judgement_reply (verdict_tells a)) c.verdict.ensures
