@@ -6,5 +6,6 @@ pub mod Ranks
 pub mod CheckDigit
 pub mod Figures
 pub mod Checks
+pub mod RefusalText
 pub mod Helpers
 pub mod OneAnswer

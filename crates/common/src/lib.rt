@@ -1,14 +1,17 @@
 // Searches, lists and refusals that every later crate cites. Nothing here knows of railways.
 #![tactic(auto)]
 
-ghost use Rattle.std.specs.Prelude.{◌≡◌, ◌+◌, ◌-◌, ◌<◌, ◌≤◌, ◌&&◌, length, take, drop, nat_le};
+ghost use Rattle.std.specs.Prelude.{◌≡◌, ◌+◌, ◌-◌, ◌<◌, ◌≤◌, ◌&&◌, length, take, drop, nat_le, Some};
 ghost use Rattle.common.specs.Lists.{same, byte_at};
 ghost use Rattle.common.specs.Digits.{digit_0, is_digit, number_of, value_of, is_within};
 ghost use Rattle.common.specs.Ranks.{rank_of, rank_limit};
 ghost use Rattle.common.specs.Checks.{refuse};
+ghost use Rattle.common.specs.RefusalText.{refusal_text};
 ghost use Rattle.common.specs.Helpers.{four_bytes, four_at};
 
 pub mod check_digit;
+
+use std::fmt;
 
 // What a few bytes say as a decimal number.
 #[derive(Clone, Copy)]
@@ -23,6 +26,18 @@ pub struct Refusal {
     pub number: u8,
     pub place: usize,
     pub detail: usize,
+}
+
+// Number, place and detail, with a blank between them.
+impl fmt::Display for Refusal {
+    ghost output = { λ why. Some (refusal_text why) };
+
+    fn fmt<W: fmt::Write>(&self, f: &mut fmt::Formatter<W>) -> fmt::Result {
+        let number = self.number;
+        let place = self.place;
+        let detail = self.detail;
+        write!(f, "{number} {place} {detail}")
+    }
 }
 
 // A function `refusal` would clash with the struct's name.

@@ -2,7 +2,6 @@
 #![tactic(auto)]
 
 use names::{field_names, words};
-use offers::Judgement;
 use std::io;
 
 mod hints;
@@ -11,18 +10,6 @@ mod refusals;
 
 // The most bytes that a bundle may have.
 const LIMIT: usize = 1048576;
-
-fn write_line(rt: &impl Print, verdict: Judgement) -> io::Result<()> {
-    match verdict {
-        Judgement::Accepted(records) => println!(rt; "OK {records}"),
-        Judgement::Refused(why) => {
-            let number = why.number;
-            let place = why.place;
-            let detail = why.detail;
-            println!(rt; "NO {number} {place} {detail}")
-        }
-    }
-}
 
 fn tell_count(rt: &impl Print, bundle: &[u8], records: usize, table: u32) -> io::Result<()> {
     field_names::say_table(rt, table)?;
@@ -47,10 +34,10 @@ fn tell_accepted(rt: &impl Print, bundle: &[u8], records: usize) -> io::Result<(
 
 fn explain(rt: &impl Print, bundle: &[u8]) -> io::Result<()> {
     let verdict = offers::verdict(bundle);
-    write_line(rt, verdict)?;
+    words::say_verdict(rt, verdict)?;
     match verdict {
-        Judgement::Accepted(records) => tell_accepted(rt, bundle, records),
-        Judgement::Refused(why) => refusals::tell(rt, bundle, why),
+        Ok(records) => tell_accepted(rt, bundle, records),
+        Err(why) => refusals::tell(rt, bundle, why),
     }
 }
 

@@ -1,8 +1,17 @@
 // Words, numbers and bytes, written to standard output. Each of these fails only where a write fails.
+use common::Refusal;
 use std::io;
 
 pub fn say(rt: &impl Print, text: &[u8]) -> io::Result<()> {
     rt.write_all(text)
+}
+
+// The verdict on a bundle as one line: how many records it has, or the first fault.
+pub fn say_verdict(rt: &impl Print, verdict: Result<usize, Refusal>) -> io::Result<()> {
+    match verdict {
+        Ok(records) => println!(rt; "OK {records}"),
+        Err(why) => println!(rt; "NO {why}"),
+    }
 }
 
 pub fn say_number(rt: &impl Print, n: usize) -> io::Result<()> {

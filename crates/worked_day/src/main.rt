@@ -2,7 +2,7 @@
 // two cards, sent again with the cards the other way round.
 #![tactic(auto)]
 
-use offers::{Leg, Outcome, Question, Receipt, Refusal, Sum};
+use offers::{Leg, Outcome, Question, Receipt, Refusal};
 use std::io;
 
 // The most bytes of the bundle that are read.
@@ -35,13 +35,6 @@ fn ticket(persons: u32, cards: [u32; 4]) -> Question {
     }
 }
 
-fn write_refusal(rt: &impl Print, why: Refusal) -> io::Result<()> {
-    let number = why.number;
-    let place = why.place;
-    let detail = why.detail;
-    print!(rt; "NO {number} {place} {detail}")
-}
-
 fn write_outcome(rt: &impl Print, outcome: Outcome) -> io::Result<()> {
     match outcome {
         Outcome::Booked => rt.print("booked"),
@@ -54,26 +47,31 @@ fn write_outcome(rt: &impl Print, outcome: Outcome) -> io::Result<()> {
         }
         Outcome::Cancelled => rt.print("cancelled"),
         Outcome::AlreadyCancelled => rt.print("already cancelled"),
-        Outcome::Refused(why) => write_refusal(rt, why),
     }
 }
 
-fn write_sum(rt: &impl Print, sum: Sum) -> io::Result<()> {
-    rt.print(" ")?;
+fn write_sum(rt: &impl Print, sum: Result<u64, Refusal>) -> io::Result<()> {
     match sum {
-        Sum::Amount(cents) => print!(rt; "{cents}"),
-        Sum::Refused(why) => write_refusal(rt, why),
+        Ok(cents) => print!(rt; " {cents}"),
+        Err(why) => print!(rt; " NO {why}"),
     }
 }
 
-// What came of it with the parts of both railways, and what the book then owes them and in all.
-fn write_line(rt: &impl Print, receipt: Receipt, book: &[u32]) -> io::Result<()> {
-    let outcome = receipt.outcome;
+fn write_receipt(rt: &impl Print, receipt: Receipt) -> io::Result<()> {
     let parts = receipt.parts;
     let first = parts[0];
     let second = parts[1];
-    write_outcome(rt, outcome)?;
-    print!(rt; ": parts {first} {second}; balances")?;
+    write_outcome(rt, receipt.outcome)?;
+    print!(rt; ": parts {first} {second}")
+}
+
+// What came of it with the parts of both railways, none where it is refused, and what the book then owes them and in all.
+fn write_line(rt: &impl Print, told: Result<Receipt, Refusal>, book: &[u32]) -> io::Result<()> {
+    match told {
+        Ok(receipt) => write_receipt(rt, receipt)?,
+        Err(why) => print!(rt; "NO {why}: parts 0 0")?,
+    }
+    rt.print("; balances")?;
     write_sum(rt, offers::balance(book, 1185))?;
     write_sum(rt, offers::balance(book, 1181))?;
     rt.print("; total")?;
