@@ -10,12 +10,11 @@ use lib.ListN.{length, get_or, drop, set, length-set, length-take, length-drop}
 use lib.Seq.{ext_get_or, get_or-set_same, get_or-set_other, drop-set-lt, drop-drop, paste}
 use Rattle.common.specs.Lists.{every}
 use Rattle.common.proofs.Tests.{order}
-use Rattle.common.proofs.Lists.{upto_same, upto_more}
+use Rattle.common.proofs.Lists.{upto_same, upto_more, every_drop}
 use Rattle.book.specs.Words.{Entry, no_entry, entry_of, entry_words, entry_at, capacity, width, book_length, count_of, entries, words_of, status_at, start_of}
 use Rattle.book.specs.Sound.{is_zero}
 use Rattle.book.specs.Changes.{added}
 use Rattle.book.proofs.EntryWords.{cancelled_entry, store_before, store_in, store_after, status_set, added_before, added_there, added_behind, added_length, Whole, words_back}
-use Rattle.common.proofs.Lists.{every_drop}
 use Rattle.book.proofs.SoundBook.{IsSound, entry_is, entries_length}
 
 -- ONE CANCELLED

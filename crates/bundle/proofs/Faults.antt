@@ -11,6 +11,8 @@ use native.Mathlib.Omega.{arith}
 use lib.Dec.{eqb, ltb}
 use lib.ListN.{length, length-append}
 use borrow.Author.Tests.{lt-ltb, le-ltb, ltb-true, ltb-false, not-true, not-false, eqb-false, ne_eqb}
+use Rattle.common.specs.declared.reasons.Reason.{Reason}
+use Rattle.common.specs.declared.reasons.Reason.TheVariants.{BundleTooLong, MarkUnknown, RecordShort, FieldBroken, OtherTransferor, KeyRepeated, LinkMissing}
 use Rattle.common.specs.Least.{least}
 use Rattle.common.specs.Lists.{every, same}
 use Rattle.common.specs.Checks.{refuse, clean, fault, first_fault, each_from}
@@ -76,7 +78,7 @@ module _ (r : Rec) where
       (e, eqb-false f 0 (rw e at k))
 
   keeps : (i : ℕ) → first_fault (field_checks i r) ≡ clean → KeepsRules r
-  keeps i e = sym (unbroken_keeps r.table r.body) ∙ not-false _ (one_clean _ 4 i _ [] e).0
+  keeps i e = sym (unbroken_keeps r.table r.body) ∙ not-false _ (one_clean _ FieldBroken i _ [] e).0
 
   kept_clean : (i : ℕ) → KeepsRules r → first_fault (field_checks i r) ≡ clean
   unfolding first_fault
@@ -89,9 +91,9 @@ module _ (R : List Rec) (i : ℕ) where
 
   fits : first_fault (record_checks R i r) ≡ clean → Fits R i
   fits e =
-      let a = one_clean _ 5 i 0 _ e in
-      let b = one_clean _ 6 i _ _ a.1 in
-      let c = one_clean _ 7 i _ [] b.1 in
+      let a = one_clean _ OtherTransferor i 0 _ e in
+      let b = one_clean _ KeyRepeated i _ _ a.1 in
+      let c = one_clean _ LinkMissing i _ [] b.1 in
       record { of_one_transferor = same_transferor R r a.0; apart = no_clash R r i b.0; linked = links_there R r c.0 }
 
   fits_clean : r.table < table_count → Fits R i → first_fault (record_checks R i r) ≡ clean
@@ -125,7 +127,7 @@ module _ (s : List ℕ) where
   rest = rest_of s
 
   abbrev Told : Refusal → Type 0
-  Told why = Fault s R rest why.number why.place why.detail
+  Told why = Fault s R rest why.reason why.place why.detail
 
   fields_told : (i : ℕ) → first_fault (field_checks (0 + i) (record_at R i)) ≡ clean → KeepsRules (record_at R i)
   fields_told i e = keeps (record_at R i) (0 + i) e
@@ -139,7 +141,7 @@ module _ (s : List ℕ) where
           let h = each_fault field_checks no_rec 0 R why e in
           let i = h.at in
           let r = record_at R i in
-          let b = last_fault _ 4 (0 + i) _ h.fails in
+          let b = last_fault _ FieldBroken (0 + i) _ h.fails in
           rw (← b.1, zero-add)
           (breaks_a_field i (broken_field r.table r.body) (record { size = l; earlier = λ j m. fields_told j (h.earlier_clean j m) }) h.inside
           (breaks r (eqb-false _ 0 (not-true _ b.0))))
@@ -152,8 +154,8 @@ module _ (s : List ℕ) where
           ⊎_elim
           (λ b. let d = both_true (ltb 0 (length rest)) (is_unknown (step_of rest)) b.0 in
           rw (← b.1) (unknown_mark (whole_look h.0) (ltb-true 0 (length rest) d.0) (unknown_means rest (is_unknown_lem (step_of rest) d.1))))
-          (λ b. let c = last_fault _ 3 (length R) 0 b.1 in rw (← c.1) (too_short (whole_look h.0) (short_means rest (is_short_lem (step_of rest) c.0))))
-          (one_fault _ 2 (length R) 0 _ h.1)
+          (λ b. let c = last_fault _ RecordShort (length R) 0 b.1 in rw (← c.1) (too_short (whole_look h.0) (short_means rest (is_short_lem (step_of rest) c.0))))
+          (one_fault _ MarkUnknown (length R) 0 _ h.1)
         where
           is_unknown_lem : (v : Step) → is_unknown v ≡ true → v ≡ Unknown
           is_unknown_lem Unknown e = refl
@@ -194,9 +196,9 @@ module _ (s : List ℕ) where
         (λ a. rw (← a.1) (other_transferor_fault i k (λ t. never a.0 (transferor_same R r t))))
         (λ a. let t = same_transferor R r a.0 in
         ⊎_elim (λ b. let c = first_clash R i ((cut_means s).whole i h.inside).named b.0 in rw (← b.1) (repeats_a_key i (earlier_of R i r) k t c.0 c.1 c.2))
-        (λ b. let c = last_fault _ 7 i _ b.1 in rw (← c.1) (lacks_a_link i _ k t (no_clash R r i b.0) (link_missing R r c.0)))
-        (one_fault _ 6 i _ _ a.1))
-        (one_fault _ 5 i 0 _ f)
+        (λ b. let c = last_fault _ LinkMissing i _ b.1 in rw (← c.1) (lacks_a_link i _ k t (no_clash R r i b.0) (link_missing R r c.0)))
+        (one_fault _ KeyRepeated i _ _ a.1))
+        (one_fault _ OtherTransferor i 0 _ f)
 
   -- THE FIRST CHECK THAT FAILS is the fault,
   pub fault_means : (why : Refusal) → first_fault (checks s) ≡ fault why → Told why
@@ -205,7 +207,7 @@ module _ (s : List ℕ) where
       ⊎_elim (λ a. rw (← a.1) (too_long (ltb-true limit (length s) a.0)))
       (λ a. let l = ltb-false limit (length s) a.0 in
       ⊎_elim (λ b. first_told l why b) (λ b. second_told l b.0 why b.1) (append_fault (first_pass s) (second_pass R) a.1))
-      (one_fault _ 1 0 0 _ e)
+      (one_fault _ BundleTooLong 0 0 _ e)
 
   -- AND BACK
   within : length s ≤ limit → first_fault (checks s) ≡ first_fault (first_pass s ++ second_pass R)
@@ -243,35 +245,35 @@ module _ (s : List ℕ) where
       (fault_each (record_checks R) no_rec 0 R why
       (record { at = i; inside = k.inside; fails = rw zero-add e; earlier_clean = λ j m. rw zero-add (fits_clean R j ((cut_means s).whole j (omega (arith, k.inside))).named (k.earlier j m)) })))
 
-  pub means_fault : (n p d : ℕ) → Fault s R rest n p d → first_fault (checks s) ≡ fault (refuse n p d)
+  pub means_fault : (n : Reason) (p d : ℕ) → Fault s R rest n p d → first_fault (checks s) ≡ fault (refuse n p d)
   unfolding checks first_pass first_fault
   means_fault n p d (too_long l) = rw (lt-ltb limit (length s) l)
-  means_fault n p d (unknown_mark k l m) = at_end k (refuse 2 (length R) 0) (rw (lt-ltb 0 (length rest) l, no_mark_is rest m))
-  means_fault n p d (too_short k m) = at_end k (refuse 3 (length R) 0) (rw (too_short_is rest m, and-false (ltb 0 (length rest))))
+  means_fault n p d (unknown_mark k l m) = at_end k (refuse MarkUnknown (length R) 0) (rw (lt-ltb 0 (length rest) l, no_mark_is rest m))
+  means_fault n p d (too_short k m) = at_end k (refuse RecordShort (length R) 0) (rw (too_short_is rest m, and-false (ltb 0 (length rest))))
   means_fault n p d (breaks_a_field i f k l b) =
       let e = broken_is (record_at R i) f b in
-      in_first k.size (refuse 4 i f)
+      in_first k.size (refuse FieldBroken i f)
       (fault_append (each_from 0 field_checks R) (end_checks (length R) rest)
-      ∙ rw (fault_each field_checks no_rec 0 R (refuse 4 i f)
+      ∙ rw (fault_each field_checks no_rec 0 R (refuse FieldBroken i f)
       (record {
         at = i;
         inside = l;
         fails = rw (zero-add, e.0, ne_eqb f 0 e.1);
         earlier_clean = λ j m. kept_clean (record_at R j) (0 + j) (k.earlier j m);
       })))
-  means_fault n p d (other_transferor_fault i k t) = in_second i k (refuse 5 i 0) (rw (another R i t))
+  means_fault n p d (other_transferor_fault i k t) = in_second i k (refuse OtherTransferor i 0) (rw (another R i t))
   means_fault n p d (repeats_a_key i j k t l c m) =
-      in_second i k (refuse 6 i j) (rw (transferor_same R (record_at R i) t, clash_first R i ((cut_means s).whole i k.inside).named j l c m, lt-ltb j i l))
+      in_second i k (refuse KeyRepeated i j) (rw (transferor_same R (record_at R i) t, clash_first R i ((cut_means s).whole i k.inside).named j l c m, lt-ltb j i l))
   means_fault n p d (lacks_a_link i f k t c m) =
       let e = missing_link_lem R (record_at R i) f m in
-      in_second i k (refuse 7 i f) (rw (transferor_same R (record_at R i) t, clash_none R (record_at R i) ((cut_means s).whole i k.inside).named i c, e.0, e.1))
+      in_second i k (refuse LinkMissing i f) (rw (transferor_same R (record_at R i) t, clash_none R (record_at R i) ((cut_means s).whole i k.inside).named i c, e.0, e.1))
 
 -- A BUNDLE IS REFUSED with a number, a place and a detail only if it has that fault, and if it has.
-pub refused_fault : (s : List ℕ) (why : Refusal) → verdict_of s ≡ Err why → Fault s (records_of s) (rest_of s) why.number why.place why.detail
+pub refused_fault : (s : List ℕ) (why : Refusal) → verdict_of s ≡ Err why → Fault s (records_of s) (rest_of s) why.reason why.place why.detail
 unfolding verdict_of
 refused_fault s why e = fault_means s why (is_fault (first_fault (checks s)) (length (records_of s)) why e)
 
-pub fault_refused : (s : List ℕ) (R : List Rec) (rest : List ℕ) → Cut s R rest → (n p d : ℕ) → Fault s R rest n p d → verdict_of s ≡ Err (refuse n p d)
+pub fault_refused : (s : List ℕ) (R : List Rec) (rest : List ℕ) → Cut s R rest → (n : Reason) (p d : ℕ) → Fault s R rest n p d → verdict_of s ≡ Err (refuse n p d)
 unfolding verdict_of
 fault_refused s R rest c n p d f =
     let e = cut_only s R rest c in

@@ -11,6 +11,7 @@ use native.Mathlib.Omega.{arith}
 use lib.Dec.{eqb, ltb}
 use lib.ListN.{length}
 use borrow.Author.Tests.{lt-ltb, le-ltb, ltb-false, not-false}
+use Rattle.common.specs.declared.reasons.Reason.TheVariants.{BundleTooLong, MarkUnknown, RecordShort, FieldBroken, OtherTransferor, KeyRepeated, LinkMissing}
 use Rattle.common.specs.Lists.{same}
 use Rattle.common.specs.Checks.{clean, first_fault, each_from}
 use Rattle.common.proofs.Tests.{never, refuted}
@@ -58,10 +59,10 @@ module _ (R : List Rec) (r : Rec) where
 pub nothing_left : (n : ℕ) (rest : List ℕ) → Over rest → first_fault (end_checks n rest) ≡ clean → rest ≡ []
 nothing_left n [] o e = refl
 nothing_left n (x ∷ rest) (unknown q) e =
-    let d = (one_clean _ 2 n 0 _ e).0 in
+    let d = (one_clean _ MarkUnknown n 0 _ e).0 in
     never (rw (q, lt-ltb 0 (suc (length rest)) (omega arith))) d
 nothing_left n (x ∷ rest) (short q) e =
-    let d = (one_clean _ 3 n 0 _ (one_clean _ 2 n 0 _ e).1).0 in
+    let d = (one_clean _ RecordShort n 0 _ (one_clean _ MarkUnknown n 0 _ e).1).0 in
     never (rw q) d
 
 pub left_nothing : (n : ℕ) → first_fault (end_checks n []) ≡ clean
@@ -76,7 +77,7 @@ module _ (s : List ℕ) where
   module _ (e : first_fault (checks s) ≡ clean) where
     size : (ltb limit (length s) ≡ false) × (first_fault (first_pass s ++ second_pass R) ≡ clean)
     unfolding checks
-    size = one_clean (ltb limit (length s)) 1 0 0 (first_pass s ++ second_pass R) e
+    size = one_clean (ltb limit (length s)) BundleTooLong 0 0 (first_pass s ++ second_pass R) e
 
     passes : (first_fault (each_from 0 field_checks R) ≡ clean) × (first_fault (end_checks (length R) (rest_of s)) ≡ clean)
     unfolding first_pass
@@ -89,7 +90,7 @@ module _ (s : List ℕ) where
     fields : (i : ℕ) → i < length R → KeepsRules (record_at R i)
     fields i l =
         let r = record_at R i in
-        sym (unbroken_keeps r.table r.body) ∙ not-false _ (one_clean _ 4 (0 + i) _ [] (each_clean field_checks no_rec 0 R passes.0 i l)).0
+        sym (unbroken_keeps r.table r.body) ∙ not-false _ (one_clean _ FieldBroken (0 + i) _ [] (each_clean field_checks no_rec 0 R passes.0 i l)).0
 
     beside : (i : ℕ) → i < length R → first_fault (record_checks R i (record_at R i)) ≡ clean
     beside i l = rw zero-add at (each_clean (record_checks R) no_rec 0 R by_record i l)
@@ -104,9 +105,9 @@ module _ (s : List ℕ) where
           bytes = sym (cut_joined s) ∙ rw empty (append-nil (joined R));
           whole = cut_whole s;
           fields = fields;
-          transferors = λ i l. same_transferor R (record_at R i) (one_clean _ 5 i 0 _ (beside i l)).0;
-          apart = λ i j l. no_clash R (record_at R i) i (one_clean _ 6 i _ _ (one_clean _ 5 i 0 _ (beside i l)).1).0 j;
-          linked = λ i l. links_there R (record_at R i) (one_clean _ 7 i _ _ (one_clean _ 6 i _ _ (one_clean _ 5 i 0 _ (beside i l)).1).1).0;
+          transferors = λ i l. same_transferor R (record_at R i) (one_clean _ OtherTransferor i 0 _ (beside i l)).0;
+          apart = λ i j l. no_clash R (record_at R i) i (one_clean _ KeyRepeated i _ _ (one_clean _ OtherTransferor i 0 _ (beside i l)).1).0 j;
+          linked = λ i l. links_there R (record_at R i) (one_clean _ LinkMissing i _ _ (one_clean _ KeyRepeated i _ _ (one_clean _ OtherTransferor i 0 _ (beside i l)).1).1).0;
         }
 
 module _ (s : List ℕ) (R : List Rec) (g : Good s R) where
@@ -130,7 +131,7 @@ module _ (s : List ℕ) (R : List Rec) (g : Good s R) where
   first_clean =
       rw (recut, left)
       (clean_append (each_from 0 field_checks R) (end_checks (length R) [])
-      (clean_each field_checks no_rec 0 R (λ i l. clean_one _ 4 (0 + i) _ [] (unbroken (record_at R i) (g.fields i l)) refl)) (left_nothing (length R)))
+      (clean_each field_checks no_rec 0 R (λ i l. clean_one _ FieldBroken (0 + i) _ [] (unbroken (record_at R i) (g.fields i l)) refl)) (left_nothing (length R)))
 
   second_clean : first_fault (second_pass (records_of s)) ≡ clean
   unfolding second_pass
@@ -139,7 +140,7 @@ module _ (s : List ℕ) (R : List Rec) (g : Good s R) where
   good_clean : first_fault (checks s) ≡ clean
   unfolding checks
   good_clean =
-      clean_one (ltb limit (length s)) 1 0 0 _ (le-ltb limit (length s) g.size)
+      clean_one (ltb limit (length s)) BundleTooLong 0 0 _ (le-ltb limit (length s) g.size)
       (clean_append (first_pass s) (second_pass (records_of s)) first_clean second_clean)
 
 -- A bundle is accepted with n only if it is n records that keep every rule,

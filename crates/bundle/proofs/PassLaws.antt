@@ -10,6 +10,7 @@ use native.Mathlib.Omega.{arith}
 use lib.Dec.{eqb, ltb}
 use lib.ListN.{length, get_or, take, drop, length-drop, drop_of_length-le}
 use borrow.Author.Tests.{lt-ltb, le-ltb, eq-eqb, ne_eqb}
+use Rattle.common.specs.declared.reasons.Reason.TheVariants.{BundleTooLong, MarkUnknown, RecordShort, FieldBroken, OtherTransferor, KeyRepeated, LinkMissing}
 use Rattle.common.specs.Lists.{same}
 use Rattle.common.specs.Checks.{refuse, Finding, clean, fault, first_fault, each_from}
 use Rattle.common.specs.declared.Refusal.{Refusal}
@@ -44,11 +45,11 @@ found_field t body e o q = rw (q, o, e) (broken_in_table t body)
 
 module _ (s : List ℕ) (p i : ℕ) (h : Here s p i) where
   module _ {t start next : ℕ} (w : Stands s p i t start next) {f : ℕ} (q : f ≡ broken_field t (between start next s)) where
-    field_step : first_from s i ≡ cond (not (eqb f 0)) (fault (refuse 4 i f)) (first_from s (i + 1))
+    field_step : first_from s i ≡ cond (not (eqb f 0)) (fault (refuse FieldBroken i f)) (first_from s (i + 1))
     unfolding each_from first_fault
     field_step = rw (w.cons, q)
 
-    pub field_fault : (f ≡ 0 → ⊥) → first_from s i ≡ fault (refuse 4 i f)
+    pub field_fault : (f ≡ 0 → ⊥) → first_from s i ≡ fault (refuse FieldBroken i f)
     field_fault n = field_step ∙ rw (ne_eqb f 0 n)
 
     pub fields_pass : f ≡ 0 → first_from s i ≡ first_from s (i + 1)
@@ -58,13 +59,13 @@ module _ (s : List ℕ) (p i : ℕ) (h : Here s p i) where
   unfolding each_from
   at_over o = rw (over_nil s p i h o, over_count s p i h o, over_rest s p i h o)
 
-  pub first_unknown : p < length s → step_of (drop p s) ≡ Unknown → first_from s i ≡ fault (refuse 2 i 0)
+  pub first_unknown : p < length s → step_of (drop p s) ≡ Unknown → first_from s i ≡ fault (refuse MarkUnknown i 0)
   unfolding first_fault
   first_unknown l e =
       let b : 0 < length (drop p s) = rw length-drop (omega arith) in
       at_over (unknown e) ∙ rw (e, lt-ltb 0 (length (drop p s)) b)
 
-  pub first_short : p < length s → step_of (drop p s) ≡ Short → first_from s i ≡ fault (refuse 3 i 0)
+  pub first_short : p < length s → step_of (drop p s) ≡ Short → first_from s i ≡ fault (refuse RecordShort i 0)
   unfolding first_fault
   first_short l e =
       let b : 0 < length (drop p s) = rw length-drop (omega arith) in
@@ -87,20 +88,20 @@ second_start R = refl
 
 module _ (R : List Rec) (i : ℕ) (r : Rec) (e : drop i R ≡ r ∷ drop (i + 1) R) where
   record_step : second_from R i
-      ≡ cond (other_transferor R r) (fault (refuse 5 i 0))
-      (cond (ltb (earlier_of R i r) i) (fault (refuse 6 i (earlier_of R i r)))
-      (cond (ltb (missing_link R r) links) (fault (refuse 7 i (get_or link_rows (missing_link R r) no_link).detail)) (second_from R (i + 1))))
+      ≡ cond (other_transferor R r) (fault (refuse OtherTransferor i 0))
+      (cond (ltb (earlier_of R i r) i) (fault (refuse KeyRepeated i (earlier_of R i r)))
+      (cond (ltb (missing_link R r) links) (fault (refuse LinkMissing i (get_or link_rows (missing_link R r) no_link).detail)) (second_from R (i + 1))))
   unfolding each_from first_fault
   record_step = rw e
 
-  pub other_fault : other_transferor R r ≡ true → second_from R i ≡ fault (refuse 5 i 0)
+  pub other_fault : other_transferor R r ≡ true → second_from R i ≡ fault (refuse OtherTransferor i 0)
   other_fault o = record_step ∙ rw o
 
   module _ (o : other_transferor R r ≡ false) where
-    pub key_fault : earlier_of R i r < i → second_from R i ≡ fault (refuse 6 i (earlier_of R i r))
+    pub key_fault : earlier_of R i r < i → second_from R i ≡ fault (refuse KeyRepeated i (earlier_of R i r))
     key_fault l = record_step ∙ rw (o, lt-ltb _ _ l)
 
-    pub link_fault : i ≤ earlier_of R i r → missing_link R r < links → second_from R i ≡ fault (refuse 7 i (get_or link_rows (missing_link R r) no_link).detail)
+    pub link_fault : i ≤ earlier_of R i r → missing_link R r < links → second_from R i ≡ fault (refuse LinkMissing i (get_or link_rows (missing_link R r) no_link).detail)
     link_fault l m = record_step ∙ rw (o, le-ltb _ _ l, lt-ltb _ _ m)
 
     pub record_passes : i ≤ earlier_of R i r → links ≤ missing_link R r → second_from R i ≡ second_from R (i + 1)
@@ -124,7 +125,7 @@ module _ (f : Finding) (n : ℕ) where
   pub is_clean_lem : (m : ℕ) → judged f n ≡ Ok m → (f ≡ clean) × (n ≡ m)
   is_clean_lem m e = ⊎_elim (λ h. (h.0, cc)) (λ h. (cc, cc)) (by_finding f n e)
 
-pub too_long : (s : List ℕ) → limit < length s → verdict_of s ≡ Err (refuse 1 0 0)
+pub too_long : (s : List ℕ) → limit < length s → verdict_of s ≡ Err (refuse BundleTooLong 0 0)
 unfolding verdict_of checks first_fault
 too_long s l = rw (lt-ltb _ _ l)
 

@@ -1,8 +1,8 @@
 -- Verdicts that document 01 gives, and a few that stand for its rules and for those of document 02, in one list: each is asked of the engine itself, on a
 -- bundle that is written out.
 -- Assumes nothing.
-use Rattle.std.specs.Prelude.{Ok, Err, ℕ, ◌≡◌, List, [], ◌∷◌, ◌++◌, take, drop}
-use Rattle.common.specs.Checks.{refuse}
+use Rattle.std.specs.Prelude.{Ok, ℕ, ◌≡◌, List, [], ◌∷◌, ◌++◌, take, drop}
+use Rattle.common.specs.Reasons.{numbers_told}
 use Rattle.layout.specs.Bytes.{byte_plus, byte_N, byte_Y}
 use Rattle.bundle.specs.Verdict.{verdict_of}
 use Rattle.bundle.specs.Samples.{digits, period, grant, conditions_in, conditions, named_in, named, card_name, memo, card}
@@ -14,7 +14,7 @@ pub data Figure : Type 0 where
 
 abbrev pub Says : Figure → Type 0
 Says (accepted bundle n) = verdict_of bundle ≡ Ok n
-Says (refused bundle n p d) = verdict_of bundle ≡ Err (refuse n p d)
+Says (refused bundle n p d) = numbers_told (verdict_of bundle) ≡ n ∷ p ∷ d ∷ []
 
 -- a CO of a quarter off, by its railway and its flag 33; an AR of 30 % off
 abbrev pub quarter : ℕ → ℕ → List ℕ

@@ -1,6 +1,7 @@
 -- The verdict on a bundle: its checks in document 01's order, of which the first that fails is told ('Keys and links', 'Numbers that turn work away').
 -- Assumes nothing.
 use Rattle.std.specs.Prelude.{Result, ℕ, Bool, true, false, not, ◌&&◌, List, [], ◌∷◌, ◌++◌, eqb, ltb, length, get_or}
+use Rattle.common.specs.declared.reasons.Reason.TheVariants.{BundleTooLong, MarkUnknown, RecordShort, FieldBroken, OtherTransferor, KeyRepeated, LinkMissing}
 use Rattle.common.specs.declared.Refusal.{Refusal}
 use Rattle.common.specs.Checks.{Finding, Check, check, unless, first_fault, each_from}
 use Rattle.layout.specs.Rules.{broken_field}
@@ -28,13 +29,13 @@ is_short (Whole t start next) = false
 abbrev pub field_checks : ℕ → Rec → List Check
 field_checks i r =
     let f : ℕ = broken_field r.table r.body in
-    check (not (eqb f 0)) 4 i f ∷ []
+    check (not (eqb f 0)) FieldBroken i f ∷ []
 
 -- 2 and 3: where the n whole records end, bytes are left whose mark is unknown (or one byte), or that are too few for their record
 abbrev pub end_checks : ℕ → List ℕ → List Check
 end_checks n rest =
-    check (ltb 0 (length rest) && is_unknown (step_of rest)) 2 n 0 ∷
-    check (is_short (step_of rest)) 3 n 0 ∷
+    check (ltb 0 (length rest) && is_unknown (step_of rest)) MarkUnknown n 0 ∷
+    check (is_short (step_of rest)) RecordShort n 0 ∷
     []
 
 -- "First the records are checked from record 0, each for 2, then 3, then 4": a whole record with a known mark has no 2 and no 3, so these two
@@ -47,9 +48,9 @@ abbrev pub record_checks : List Rec → ℕ → Rec → List Check
 record_checks R i r =
     let j : ℕ = earlier_of R i r in
     let k : ℕ = missing_link R r in
-    check (other_transferor R r) 5 i 0 ∷
-    check (ltb j i) 6 i j ∷
-    check (ltb k links) 7 i (get_or link_rows k no_link).detail ∷
+    check (other_transferor R r) OtherTransferor i 0 ∷
+    check (ltb j i) KeyRepeated i j ∷
+    check (ltb k links) LinkMissing i (get_or link_rows k no_link).detail ∷
     []
 
 -- "only if none fails are they gone through again, from record 0, each record for 5, then 6, then 7 .., before the next record"
@@ -58,7 +59,7 @@ second_pass R = each_from 0 (record_checks R) R
 
 -- every check of a bundle, in order
 unfoldable pub checks : List ℕ → List Check
-checks s = check (ltb limit (length s)) 1 0 0 ∷ (first_pass s ++ second_pass (records_of s))
+checks s = check (ltb limit (length s)) BundleTooLong 0 0 ∷ (first_pass s ++ second_pass (records_of s))
 
 abbrev pub judged : Finding → ℕ → Result ℕ Refusal
 judged f n = unless f n

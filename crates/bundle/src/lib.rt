@@ -12,7 +12,7 @@ mod passes;
 mod room;
 pub mod walk;
 
-use common::Refusal;
+use common::{Reason, Refusal};
 
 const LIMIT: usize = 1048576;
 
@@ -21,7 +21,7 @@ pub fn verdict(bundle: &[u8]) -> Result<usize, Refusal>
     ensures { result ≡ verdict_of bundle.now }
 {
     if LIMIT < bundle.len() {
-        return Err(common::refuse(1, 0, 0));
+        return Err(common::refuse(Reason::BundleTooLong, 0, 0));
     }
     let records = passes::first_pass(bundle)?;
     room::second_pass(bundle, records)

@@ -4,7 +4,7 @@ ghost use Rattle.bundle.specs.Helpers.{first_tells, second_tells};
 ghost use Rattle.bundle.specs.Hints.{Hinted};
 
 use super::walk::Step;
-use common::Refusal;
+use common::{Reason, Refusal};
 
 // Each record by itself: 2, then 3, then 4.
 pub fn first_pass(bundle: &[u8]) -> Result<usize, Refusal>
@@ -18,10 +18,10 @@ pub fn first_pass(bundle: &[u8]) -> Result<usize, Refusal>
         let here = super::walk::step_at(bundle, at);
         match here {
             Step::Unknown => {
-                return Err(common::refuse(2, i, 0));
+                return Err(common::refuse(Reason::MarkUnknown, i, 0));
             }
             Step::Short => {
-                return Err(common::refuse(3, i, 0));
+                return Err(common::refuse(Reason::RecordShort, i, 0));
             }
             Step::Whole(table, start, next) => {
                 let field = layout::rows::broken_field(
@@ -29,7 +29,7 @@ pub fn first_pass(bundle: &[u8]) -> Result<usize, Refusal>
                     &bundle[start..next],
                 );
                 if field != 0 {
-                    return Err(common::refuse(4, i, field));
+                    return Err(common::refuse(Reason::FieldBroken, i, field));
                 }
                 at = next;
                 i += 1;
@@ -60,7 +60,7 @@ pub fn second_pass(
         };
         let r = &bundle[start..next];
         if !common::same_bytes(layout::fields::transferor(r), transferor) {
-            break 'records Err(common::refuse(5, i, 0));
+            break 'records Err(common::refuse(Reason::OtherTransferor, i, 0));
         }
         let mut p = 0;
         let mut j = 0;
@@ -78,7 +78,7 @@ pub fn second_pass(
                 break 'records Ok(j);
             };
             if super::keys::clashes(table, r, t, &bundle[s..e]) {
-                break 'records Err(common::refuse(6, i, j));
+                break 'records Err(common::refuse(Reason::KeyRepeated, i, j));
             }
             p = e;
             j += 1;
@@ -86,7 +86,7 @@ pub fn second_pass(
         let k = super::links::missing_link(bundle, hints, table, r);
         if k < super::links::LINKS {
             let link = super::links::link_at(k);
-            break 'records Err(common::refuse(7, i, link.detail));
+            break 'records Err(common::refuse(Reason::LinkMissing, i, link.detail));
         }
         at = next;
         i += 1;

@@ -4,6 +4,8 @@ use Rattle.std.proofs.Common.{◌≡◌, ℕ, zero, suc, ◌+◌, ◌<◌, ◌�
 use Rattle.std.specs.Prelude.{Result, Ok, Err}
 use Rattle.common.specs.Lists.{every, any}
 use Rattle.common.specs.Checks.{Finding, clean, fault, refuse, Check, check, unless, first_fault, each_from, AllPass, First, is_among, TellsOf}
+use Rattle.common.specs.Reasons.{number_of_reason}
+use Rattle.common.specs.declared.reasons.Reason.{Reason}
 use Rattle.common.specs.declared.Refusal.{Refusal}
 use Rattle.common.proofs.Lists.{every_append}
 use Rattle.common.proofs.Tests.{both_true, either_false}
@@ -103,11 +105,11 @@ means_fault cs r f =
     rw f.split (fault_append f.before (record { fails = true; tells = r } ∷ f.after) ∙ rw (means_clean f.before f.earlier_pass))
 
 -- IN PARTS: a list of checks finds nothing exactly if its parts do, and a check if it passes.
-pub one_clean : (b : Bool) (k p d : ℕ) (cs : List Check) → first_fault (check b k p d ∷ cs) ≡ clean → (b ≡ false) × (first_fault cs ≡ clean)
+pub one_clean : (b : Bool) (k : Reason) (p d : ℕ) (cs : List Check) → first_fault (check b k p d ∷ cs) ≡ clean → (b ≡ false) × (first_fault cs ≡ clean)
 unfolding first_fault
 one_clean b k p d cs e = clean_cond b _ (first_fault cs) e
 
-pub clean_one : (b : Bool) (k p d : ℕ) (cs : List Check) → b ≡ false → first_fault cs ≡ clean → first_fault (check b k p d ∷ cs) ≡ clean
+pub clean_one : (b : Bool) (k : Reason) (p d : ℕ) (cs : List Check) → b ≡ false → first_fault cs ≡ clean → first_fault (check b k p d ∷ cs) ≡ clean
 unfolding first_fault
 clean_one b k p d cs e f = rw e f
 
@@ -122,7 +124,7 @@ fault_cond : (t : Bool) {x r : Refusal} {f : Finding} → cond t (fault x) f ≡
 fault_cond true e = inl (refl, cc)
 fault_cond false e = inr (refl, e)
 
-pub one_fault : (b : Bool) (k p d : ℕ) (cs : List Check) {r : Refusal} → first_fault (check b k p d ∷ cs) ≡ fault r
+pub one_fault : (b : Bool) (k : Reason) (p d : ℕ) (cs : List Check) {r : Refusal} → first_fault (check b k p d ∷ cs) ≡ fault r
     → ((b ≡ true) × (refuse k p d ≡ r)) ⊎ ((b ≡ false) × (first_fault cs ≡ fault r))
 unfolding first_fault
 one_fault b k p d cs e = fault_cond b e
@@ -133,7 +135,7 @@ append_fault a b e = ⊎_elim (λ h. inr h) (λ h. inl (h.1 ∙ h.2)) (found_eit
 pub no_fault : {A : Type 0} {f : Finding} {r : Refusal} → f ≡ clean → f ≡ fault r → A
 no_fault e h = let z : ◌≡◌ {A = ℕ} 0 1 = cc in absurd (omega arith)
 
-pub last_fault : (b : Bool) (k p d : ℕ) {r : Refusal} → first_fault (check b k p d ∷ []) ≡ fault r → (b ≡ true) × (refuse k p d ≡ r)
+pub last_fault : (b : Bool) (k : Reason) (p d : ℕ) {r : Refusal} → first_fault (check b k p d ∷ []) ≡ fault r → (b ≡ true) × (refuse k p d ≡ r)
 unfolding first_fault
 last_fault b k p d e = ⊎_elim (λ h. h) (λ h. no_fault refl h.1) (fault_cond b e)
 
@@ -205,7 +207,7 @@ module _ (ns : List ℕ) where
   each_tells f g i [] = refl
   each_tells f g i (x ∷ xs) = append_tells (f i x) (each_from (i + 1) f xs) (g i x) (each_tells f g (i + 1) xs)
 
-  pub first_among : (cs : List Check) → TellsOf ns cs → (r : Refusal) → First cs r → any (eqb r.number) ns ≡ true
+  pub first_among : (cs : List Check) → TellsOf ns cs → (r : Refusal) → First cs r → any (eqb (number_of_reason r.reason)) ns ≡ true
   unfolding every
   first_among cs e r f =
       let c : Check = record { fails = true; tells = r } in

@@ -2,11 +2,13 @@
 -- Assumes nothing.
 use Rattle.std.specs.Prelude.{◌≡◌, ℕ, ◌+◌, Bool, true, false, cond, List, [], ◌∷◌, ◌++◌, nat_eq, Result, Ok, Err}
 use Rattle.common.specs.Lists.{every, any}
+use Rattle.common.specs.Reasons.{number_of_reason}
+use Rattle.common.specs.declared.reasons.Reason.{Reason}
 use Rattle.common.specs.declared.Refusal.{Refusal}
 
--- why work is turned away: the number of the check that failed, its place and its detail
-abbrev pub refuse : ℕ → ℕ → ℕ → Refusal
-refuse k p d = record { number = k; place = p; detail = d }
+-- why work is turned away, its place and its detail
+abbrev pub refuse : Reason → ℕ → ℕ → Refusal
+refuse k p d = record { reason = k; place = p; detail = d }
 
 -- what a list of checks comes to: nothing fails, or what the first tells that does
 pub data Finding : Type 0 where
@@ -18,7 +20,7 @@ pub record Check : Type 0 where
   pub fails : Bool
   pub tells : Refusal
 
-abbrev pub check : Bool → ℕ → ℕ → ℕ → Check
+abbrev pub check : Bool → Reason → ℕ → ℕ → Check
 check b k p d = record { fails = b; tells = refuse k p d }
 
 -- the answer a, unless something was found: then the refusal
@@ -49,7 +51,7 @@ pub record First (cs : List Check) (r : Refusal) : Type 0 where
 
 -- Each check of the list tells one of these numbers.
 abbrev pub is_among : List ℕ → Check → Bool
-is_among ns c = any (nat_eq c.tells.number) ns
+is_among ns c = any (nat_eq (number_of_reason c.tells.reason)) ns
 
 abbrev pub TellsOf : List ℕ → List Check → Type 0
 TellsOf ns cs = every (is_among ns) cs ≡ true

@@ -5,6 +5,7 @@ pub mod Digits
 pub mod Ranks
 pub mod CheckDigit
 pub mod Figures
+pub mod Reasons
 pub mod Checks
 pub mod RefusalText
 pub mod Helpers

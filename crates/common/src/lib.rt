@@ -1,4 +1,4 @@
-// Searches, lists and refusals that every later crate cites. Nothing here knows of railways.
+// Searches, lists and refusals that every later crate cites. But for the reasons of a refusal nothing here knows of railways.
 #![tactic(auto)]
 
 ghost use Rattle.std.specs.Prelude.{◌≡◌, ◌+◌, ◌-◌, ◌<◌, ◌≤◌, ◌&&◌, length, take, drop, nat_le, Some};
@@ -10,7 +10,9 @@ ghost use Rattle.common.specs.RefusalText.{refusal_text};
 ghost use Rattle.common.specs.Helpers.{four_bytes, four_at};
 
 pub mod check_digit;
+mod reasons;
 
+pub use reasons::Reason;
 use std::fmt;
 
 // What a few bytes say as a decimal number.
@@ -20,20 +22,20 @@ pub enum Num {
     Not,
 }
 
-// Why work is turned away: the number of the check that failed, its place and its detail.
+// Why work is turned away, with its place and its detail.
 #[derive(Clone, Copy)]
 pub struct Refusal {
-    pub number: u8,
+    pub reason: Reason,
     pub place: usize,
     pub detail: usize,
 }
 
-// Number, place and detail, with a blank between them.
+// Its number, place and detail, with a blank between them.
 impl fmt::Display for Refusal {
     ghost output = { λ why. Some (refusal_text why) };
 
     fn fmt<W: fmt::Write>(&self, f: &mut fmt::Formatter<W>) -> fmt::Result {
-        let number = self.number;
+        let number = u8::from(self.reason);
         let place = self.place;
         let detail = self.detail;
         write!(f, "{number} {place} {detail}")
@@ -41,11 +43,11 @@ impl fmt::Display for Refusal {
 }
 
 // A function `refusal` would clash with the struct's name.
-pub fn refuse(number: u8, place: usize, detail: usize) -> Refusal
-    ensures { result ≡ refuse number place detail }
+pub fn refuse(reason: Reason, place: usize, detail: usize) -> Refusal
+    ensures { result ≡ refuse reason place detail }
 {
     Refusal {
-        number,
+        reason,
         place,
         detail,
     }

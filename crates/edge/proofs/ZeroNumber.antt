@@ -7,6 +7,7 @@ use mathlib.Core.Bool.{false}
 use native.Mathlib.Omega.{arith}
 use lib.Dec.{eqb}
 use Rattle.std.specs.Prelude.{Result, Ok, Err}
+use Rattle.common.specs.Reasons.{number_of_reason}
 use Rattle.common.specs.Lists.{any}
 use Rattle.common.specs.declared.Refusal.{Refusal}
 use Rattle.common.proofs.Tests.{never}
@@ -19,14 +20,13 @@ use Rattle.sales.specs.Reading.{count_answer, entry_answer, find_answer}
 use Rattle.sales.specs.declared.Booking.{Booking}
 use Rattle.offers.specs.Answers.{Told, answers, refuses, verdict_tells, fare_tells, receipt_tells, sum_tells, tally_tells, tells_values, booking_tells}
 use Rattle.offers.specs.Numbers.{Among, verdict_numbers, fare_numbers, sale_numbers, cancel_numbers, balance_numbers, total_numbers, count_numbers, entry_numbers, find_numbers}
-use Rattle.offers.proofs.Orders.{the_numbers_of_a_verdict, the_numbers_of_a_fare, the_numbers_of_a_sale}
-use Rattle.offers.proofs.Orders.{the_numbers_of_a_cancellation, the_numbers_of_a_balance, the_numbers_of_a_total, the_numbers_of_a_count, the_numbers_of_an_entry, the_numbers_of_a_find}
-use Rattle.edge.specs.Replies.{refusal_in, judgement_reply, quote_reply, receipt_reply, sum_reply, tally_reply, booking_reply}
+use Rattle.offers.proofs.Orders.{the_numbers_of_a_verdict, the_numbers_of_a_fare, the_numbers_of_a_sale, the_numbers_of_a_cancellation, the_numbers_of_a_balance, the_numbers_of_a_total, the_numbers_of_a_count, the_numbers_of_an_entry, the_numbers_of_a_find}
+use Rattle.edge.specs.Replies.{number_in, judgement_reply, quote_reply, receipt_reply, sum_reply, tally_reply, booking_reply}
 use Rattle.edge.specs.ZeroNumber.{ZeroIfAnswered}
 
 -- where 0 is not among the numbers that a refusal can have
-by_number : (ns : List ℕ) → any (eqb 0) ns ≡ false → (t : Told) → ((why : Refusal) (us : List ℕ) → t ≡ refuses why us → Among ns why.number)
-    → ZeroIfAnswered (refusal_in t).number t
+by_number : (ns : List ℕ) → any (eqb 0) ns ≡ false → (t : Told) → ((why : Refusal) (us : List ℕ) → t ≡ refuses why us → Among ns (number_of_reason why.reason))
+    → ZeroIfAnswered (number_in t) t
 by_number ns none (answers us) among = record { zero_is_answered = λ z. (us, refl); answered_is_zero = λ vs e. refl }
 by_number ns none (refuses why us) among = record {
   zero_is_answered = λ z. never (rw z at (among why us refl)) none;
@@ -63,7 +63,7 @@ unfolding tally_reply any
 zero_if_counted book = by_number count_numbers refl _ (the_numbers_of_a_count book)
 
 -- the refusal that a reply for a sale has is the one that is told
-told_refusal : (b : Result Booking Refusal) → (booking_reply b).number ≡ (refusal_in (booking_tells b)).number
+told_refusal : (b : Result Booking Refusal) → (booking_reply b).number ≡ number_in (booking_tells b)
 unfolding booking_reply tells_values
 told_refusal (Ok sale) = refl
 told_refusal (Err why) = refl

@@ -1,6 +1,7 @@
 -- What C gets, in figures: each value of a reply is that of its name, for a refusal and for an answer.
 -- Assumes nothing.
 use Rattle.std.specs.Prelude.{ℕ, ◌≡◌, List, [], ◌∷◌, replicate, Ok, Err}
+use Rattle.common.specs.declared.reasons.Reason.TheVariants.{LinkMissing, SaleUnknown}
 use Rattle.common.specs.Checks.{refuse}
 use Rattle.offers.specs.Answers.{Told, answers, refuses, booked, already_booked}
 use Rattle.fares.specs.Samples.{leg, ticket}
@@ -10,7 +11,7 @@ use Rattle.edge.specs.Replies.{judgement_reply, quote_reply, receipt_reply, sum_
 
 -- a refusal by 7 at record 5, detail 3, with so many values; the parts of two legs
 abbrev pub refused : ℕ → Told
-refused values = refuses (refuse 7 5 3) (replicate values 0)
+refused values = refuses (refuse LinkMissing 5 3) (replicate values 0)
 
 abbrev pub parts : List ℕ
 parts = 2274 ∷ 1500 ∷ 0 ∷ 0 ∷ 0 ∷ 0 ∷ 0 ∷ 0 ∷ []
@@ -34,6 +35,6 @@ pub record Replies : Type 0 where
   pub sum : sum_reply (answers (3774 ∷ [])) ≡ record { number = 0; place = 0; detail = 0; amount = 3774 }
   pub no_tally : tally_reply (refused 1) ≡ record { number = 7; place = 5; detail = 3; entries = 0 }
   pub tally : tally_reply (answers (2 ∷ [])) ≡ record { number = 0; place = 0; detail = 0; entries = 2 }
-  pub no_booking_told : booking_reply (Err (refuse 25 0 0))
+  pub no_booking_told : booking_reply (Err (refuse SaleUnknown 0 0))
       ≡ record { number = 25; place = 0; detail = 0; entry = 0; sequence = 0; till = 0; status = 0; question = no_question; parts = replicate 8 0 }
   pub booking : booking_reply (Ok sold) ≡ record { number = 0; place = 0; detail = 0; entry = 3; sequence = 12; till = 7; status = 1; question = asked; parts = parts }

@@ -1,7 +1,7 @@
 -- The structs that C gets for an answer: number, place and detail, and the values in their order.
 -- Assumes nothing.
 use Rattle.std.specs.Prelude.{ℕ, List, get_or, drop, replicate, Result, Ok, Err}
-use Rattle.common.specs.Checks.{refuse}
+use Rattle.common.specs.Reasons.{number_of_reason}
 use Rattle.common.specs.declared.Refusal.{Refusal}
 use Rattle.offers.specs.Answers.{Told, answers, refuses}
 use Rattle.sales.specs.declared.Booking.{Booking}
@@ -14,10 +14,18 @@ use Rattle.edge.specs.declared.ReceiptReply.{ReceiptReply}
 use Rattle.edge.specs.declared.SumReply.{SumReply}
 use Rattle.edge.specs.declared.TallyReply.{TallyReply}
 
--- the refusal that is told; 0 stands for none, as numbers start at 1
-abbrev pub refusal_in : Told → Refusal
-refusal_in (answers vs) = refuse 0 0 0
-refusal_in (refuses why vs) = why
+-- number, place and detail of the refusal that is told; 0 stands for none, as numbers start at 1
+abbrev pub number_in : Told → ℕ
+number_in (answers vs) = 0
+number_in (refuses why vs) = number_of_reason why.reason
+
+abbrev pub place_in : Told → ℕ
+place_in (answers vs) = 0
+place_in (refuses why vs) = why.place
+
+abbrev pub detail_in : Told → ℕ
+detail_in (answers vs) = 0
+detail_in (refuses why vs) = why.detail
 
 abbrev pub values_of : Told → List ℕ
 values_of (answers vs) = vs
@@ -28,26 +36,26 @@ value_at i t = get_or (values_of t) i 0
 
 unfoldable pub judgement_reply : Told → JudgementReply
 judgement_reply t = record {
-  number = (refusal_in t).number;
-  place = (refusal_in t).place;
-  detail = (refusal_in t).detail;
+  number = number_in t;
+  place = place_in t;
+  detail = detail_in t;
   records = value_at 0 t;
 }
 
 unfoldable pub quote_reply : Told → QuoteReply
 quote_reply t = record {
-  number = (refusal_in t).number;
-  place = (refusal_in t).place;
-  detail = (refusal_in t).detail;
+  number = number_in t;
+  place = place_in t;
+  detail = detail_in t;
   fare = value_at 0 t;
   parts = drop 1 (values_of t);
 }
 
 unfoldable pub receipt_reply : Told → ReceiptReply
 receipt_reply t = record {
-  number = (refusal_in t).number;
-  place = (refusal_in t).place;
-  detail = (refusal_in t).detail;
+  number = number_in t;
+  place = place_in t;
+  detail = detail_in t;
   outcome = value_at 0 t;
   cancelled = value_at 1 t;
   parts = drop 2 (values_of t);
@@ -55,17 +63,17 @@ receipt_reply t = record {
 
 unfoldable pub sum_reply : Told → SumReply
 sum_reply t = record {
-  number = (refusal_in t).number;
-  place = (refusal_in t).place;
-  detail = (refusal_in t).detail;
+  number = number_in t;
+  place = place_in t;
+  detail = detail_in t;
   amount = value_at 0 t;
 }
 
 unfoldable pub tally_reply : Told → TallyReply
 tally_reply t = record {
-  number = (refusal_in t).number;
-  place = (refusal_in t).place;
-  detail = (refusal_in t).detail;
+  number = number_in t;
+  place = place_in t;
+  detail = detail_in t;
   entries = value_at 0 t;
 }
 
@@ -86,7 +94,7 @@ booking_reply (Ok b) = record {
   parts = b.parts;
 }
 booking_reply (Err why) = record {
-  number = why.number;
+  number = number_of_reason why.reason;
   place = why.place;
   detail = why.detail;
   entry = 0;

@@ -98,7 +98,7 @@ impl From<Result<usize, Refusal>> for JudgementReply {
                 records: records as u64,
             },
             Err(why) => JudgementReply {
-                number: why.number as u64,
+                number: u8::from(why.reason) as u64,
                 place: why.place as u64,
                 detail: why.detail as u64,
                 records: 0,
@@ -123,7 +123,7 @@ impl From<Result<Quote, Refusal>> for QuoteReply {
                 }
             }
             Err(why) => QuoteReply {
-                number: why.number as u64,
+                number: u8::from(why.reason) as u64,
                 place: why.place as u64,
                 detail: why.detail as u64,
                 fare: 0,
@@ -163,7 +163,7 @@ impl From<Result<Receipt, Refusal>> for ReceiptReply {
                 }
             }
             Err(why) => ReceiptReply {
-                number: why.number as u64,
+                number: u8::from(why.reason) as u64,
                 place: why.place as u64,
                 detail: why.detail as u64,
                 outcome: REFUSED,
@@ -186,7 +186,7 @@ impl From<Result<u64, Refusal>> for SumReply {
                 amount,
             },
             Err(why) => SumReply {
-                number: why.number as u64,
+                number: u8::from(why.reason) as u64,
                 place: why.place as u64,
                 detail: why.detail as u64,
                 amount: 0,
@@ -207,7 +207,7 @@ impl From<Result<usize, Refusal>> for TallyReply {
                 entries: entries as u64,
             },
             Err(why) => TallyReply {
-                number: why.number as u64,
+                number: u8::from(why.reason) as u64,
                 place: why.place as u64,
                 detail: why.detail as u64,
                 entries: 0,
@@ -250,7 +250,7 @@ impl From<Result<Booking, Refusal>> for BookingReply {
                 }
             }
             Err(why) => BookingReply {
-                number: why.number as u64,
+                number: u8::from(why.reason) as u64,
                 place: why.place as u64,
                 detail: why.detail as u64,
                 entry: 0,

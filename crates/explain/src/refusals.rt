@@ -2,7 +2,7 @@
 use super::hints;
 use super::places::{body_at, place_of};
 use bundle::walk::table_at;
-use common::Refusal;
+use common::{Reason, Refusal};
 use layout::rows::Row;
 use layout::{fields, rows};
 use names::field_names::{say_field, say_mark, say_table};
@@ -11,17 +11,16 @@ use names::words::{say, say_bytes, say_delivered, say_quoted, sum};
 use std::io;
 
 pub fn tell(rt: &impl Print, bundle: &[u8], why: Refusal) -> io::Result<()> {
-    let number = why.number;
     let record = why.place;
     let detail = why.detail;
-    match number {
-        1 => tell_too_long(rt)?,
-        2 => tell_no_mark(rt, bundle, record)?,
-        3 => tell_cut_short(rt, bundle, record)?,
-        4 => tell_broken_field(rt, bundle, record, detail)?,
-        5 => tell_other_transferor(rt, bundle, record)?,
-        6 => tell_repeated_key(rt, bundle, record, detail)?,
-        7 => tell_missing_link(rt, bundle, record, detail)?,
+    match why.reason {
+        Reason::BundleTooLong => tell_too_long(rt)?,
+        Reason::MarkUnknown => tell_no_mark(rt, bundle, record)?,
+        Reason::RecordShort => tell_cut_short(rt, bundle, record)?,
+        Reason::FieldBroken => tell_broken_field(rt, bundle, record, detail)?,
+        Reason::OtherTransferor => tell_other_transferor(rt, bundle, record)?,
+        Reason::KeyRepeated => tell_repeated_key(rt, bundle, record, detail)?,
+        Reason::LinkMissing => tell_missing_link(rt, bundle, record, detail)?,
         _ => say(rt, b"There are no words for this number here.\n")?,
     }
     say(

@@ -10,6 +10,7 @@ use native.Mathlib.Numerals.{add-one}
 use native.Mathlib.Omega.{arith}
 use lib.ListN.{length, get_or, drop, set, replicate, length-map, length-append, drop_of_length-le}
 use lib.Seq.{drop-cons}
+use Rattle.common.specs.declared.reasons.Reason.TheVariants.{NoConditions, DayOutside}
 use Rattle.common.specs.Lists.{only}
 use Rattle.common.specs.Checks.{refuse, fault, first_fault}
 use Rattle.common.proofs.Only.{only_few}
@@ -190,11 +191,11 @@ module _ (s : List ℕ) (q : Question) (leg : Leg) where
 
   -- what the choice of the CO says of the leg: a refusal,
   module _ (k : ℕ) where
-    pub no_conditions : at_place s conditions ≡ Nothing → first_fault (leg_checks R q k leg) ≡ fault (refuse 12 k 0)
+    pub no_conditions : at_place s conditions ≡ Nothing → first_fault (leg_checks R q k leg) ≡ fault (refuse NoConditions k 0)
     unfolding first_fault
     no_conditions e = rw (is_nothing_lem s conditions e)
 
-    pub off_day : at_place s conditions ≡ NotThatDay → first_fault (leg_checks R q k leg) ≡ fault (refuse 13 k 0)
+    pub off_day : at_place s conditions ≡ NotThatDay → first_fault (leg_checks R q k leg) ≡ fault (refuse DayOutside k 0)
     unfolding first_fault
     off_day e = rw (is_off_day_lem s conditions e)
 

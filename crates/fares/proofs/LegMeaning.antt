@@ -8,6 +8,8 @@ use mathlib.Core.Logic.{◌⊎◌, inl, inr, ⊎_elim}
 use native.Mathlib.Omega.{arith}
 use lib.Dec.{eqb, leb, ltb}
 use borrow.Author.Tests.{eqb-true, eq-eqb, ne_eqb, leb-true, le-leb, ltb-true}
+use Rattle.common.specs.declared.reasons.Reason.{Reason}
+use Rattle.common.specs.declared.reasons.Reason.TheVariants.{NoConditions, DayOutside, PersonsOutside, ConditionUnread}
 use Rattle.common.specs.Lists.{every, any}
 use Rattle.common.specs.Checks.{refuse, clean, fault, first_fault}
 use Rattle.common.proofs.Tests.{never, both_true, either_false, refuted}
@@ -24,8 +26,7 @@ use Rattle.choice.proofs.Chosen.{choice_means, uses_either, chosen_only}
 use Rattle.fares.specs.Reductions.{conditions_grant, reduce_by}
 use Rattle.fares.specs.Cards.{after_cards}
 use Rattle.fares.specs.Legs.{wanted_for, conditions_for, bodies, applied_for, most_of, persons_fit, unread, first_set, condition_checks, leg_checks, part_by, part_of}
-use Rattle.fares.specs.Meaning.{CardsDiffer, PersonsFit, NoneSet, FirstSet, unread_fields, IsConditions, LegFare}
-use Rattle.fares.specs.Meaning.{TurnedAway, no_conditions, none_valid, persons_outside, unread as condition-unread}
+use Rattle.fares.specs.Meaning.{CardsDiffer, PersonsFit, NoneSet, FirstSet, unread_fields, IsConditions, LegFare, TurnedAway, no_conditions, none_valid, persons_outside, unread as condition-unread}
 use Rattle.fares.specs.declared.Leg.{Leg}
 use Rattle.fares.specs.declared.Question.{Question}
 use Rattle.fares.proofs.Grants.{Lawful, conditions_lawful}
@@ -158,7 +159,7 @@ module _ (s : List ℕ) (R : List Rec) (g : Good s R) (q : Question) (leg : Leg)
 
     abbrev Found : Type 0
     Found = ((first_fault (leg_checks R q k leg) ≡ clean) × LegFare R q leg (part_of R q leg))
-        ⊎ ((n : ℕ) × (d : ℕ) × (first_fault (leg_checks R q k leg) ≡ fault (refuse n k d)) × TurnedAway R q leg n d)
+        ⊎ ((n : Reason) × (d : ℕ) × (first_fault (leg_checks R q k leg) ≡ fault (refuse n k d)) × TurnedAway R q leg n d)
 
     -- by its CO, where no card is given twice
     module _ (d : CardsDiffer q) (i : ℕ) (e : conditions_for R q leg ≡ At i) (u : IsConditions R q leg i) where
@@ -183,25 +184,25 @@ module _ (s : List ℕ) (R : List Rec) (g : Good s R) (q : Question) (leg : Leg)
               times_persons = part_at i e;
             },
           ))
-          (λ z. inr (15, first_set unread co, at_record i e ∙ rw (b, ne_eqb (first_set unread co) 0 (λ x. omega (arith, z.1))), condition-unread i u p (first_set unread co) z.0))
+          (λ z. inr (ConditionUnread, first_set unread co, at_record i e ∙ rw (b, ne_eqb (first_set unread co) 0 (λ x. omega (arith, z.1))), condition-unread i u p (first_set unread co) z.0))
           (first_unread co)
 
       by_persons : (b : Bool) → persons_fit co q.persons ≡ b → Found
       unfolding first_fault
-      by_persons false b = inr (14, 0, at_record i e ∙ rw b, persons_outside i u (λ p. never (means_fit co q.persons p) b))
+      by_persons false b = inr (PersonsOutside, 0, at_record i e ∙ rw b, persons_outside i u (λ p. never (means_fit co q.persons p) b))
       by_persons true b = by_unread (fit_means co q.persons b) b
 
     by_choice : CardsDiffer q → (c : Choice) → conditions_for R q leg ≡ c → Chosen R CO q.offer 0 leg.railway q.day c → Found
     unfolding first_fault
     by_choice d c e (used i u) = by_persons d i e u (persons_fit (record_at R i).body q.persons) refl
-    by_choice d c e (not_that_day i f h) = inr (13, 0, rw e, none_valid i f h)
-    by_choice d c e (nothing h) = inr (12, 0, rw e, no_conditions h)
+    by_choice d c e (not_that_day i f h) = inr (DayOutside, 0, rw e, none_valid i f h)
+    by_choice d c e (nothing h) = inr (NoConditions, 0, rw e, no_conditions h)
 
     pub leg_means : CardsDiffer q → Found
     leg_means d = by_choice d (conditions_for R q leg) refl conditions_mean
 
     -- AND BACK
-    pub means_turned : (n d : ℕ) → TurnedAway R q leg n d → first_fault (leg_checks R q k leg) ≡ fault (refuse n k d)
+    pub means_turned : (n : Reason) (d : ℕ) → TurnedAway R q leg n d → first_fault (leg_checks R q k leg) ≡ fault (refuse n k d)
     unfolding first_fault
     means_turned n d (no_conditions h) = rw (is_conditions Nothing (nothing h))
     means_turned n d (none_valid i f h) = rw (is_conditions NotThatDay (not_that_day i f h))

@@ -12,6 +12,8 @@ use lib.ListN.{length, get_or, replicate, length-map, length-append, length-repl
 use lib.Seq.{ext_get_or}
 use borrow.Author.Tests.{not-true, not-false}
 use Rattle.std.specs.Prelude.{Ok, Err}
+use Rattle.common.specs.declared.reasons.Reason.{Reason}
+use Rattle.common.specs.declared.reasons.Reason.TheVariants.{OutsideLimits, CardTwice}
 use Rattle.common.specs.Lists.{sum}
 use Rattle.common.specs.Checks.{refuse, clean, fault, Check, check, first_fault, each_from}
 use Rattle.common.specs.declared.Refusal.{Refusal}
@@ -89,7 +91,7 @@ module _ (s : List ℕ) (q : Question) where
 
   -- then the question and the legs
   abbrev cards : Check
-  cards = check (not (cards_differ (card_slots q))) 17 0 0
+  cards = check (not (cards_differ (card_slots q))) CardTwice 0 0
 
   abbrev leg_faults : List Check
   leg_faults = each_from 0 (leg_checks R q) (legs_of q)
@@ -111,8 +113,8 @@ module _ (s : List ℕ) (q : Question) where
     within_limits : (in_limits q ≡ true) × (cards_differ (card_slots q) ≡ true) × (first_fault leg_faults ≡ clean)
     unfolding price_checks
     within_limits =
-        let b = one_clean (not (in_limits q)) 11 0 0 (cards ∷ leg_faults) passes.1 in
-        let d = one_clean (not (cards_differ (card_slots q))) 17 0 0 leg_faults b.1 in
+        let b = one_clean (not (in_limits q)) OutsideLimits 0 0 (cards ∷ leg_faults) passes.1 in
+        let d = one_clean (not (cards_differ (card_slots q))) CardTwice 0 0 leg_faults b.1 in
         (not-false (in_limits q) b.0, not-false (cards_differ (card_slots q)) d.0, d.1)
 
     leg_priced : (k : ℕ) → k < q.count → LegFare R q (leg_at q k) (get_or (parts_of R q) k 0)
@@ -145,7 +147,7 @@ module _ (s : List ℕ) (q : Question) where
       (by_finding (first_fault (fare_checks s q)) (priced (parts_of R q)) e)
 
   abbrev Told : Refusal → Type 0
-  Told why = NoFare s R (rest_of s) q why.number why.place why.detail
+  Told why = NoFare s R (rest_of s) q why.reason why.place why.detail
 
   by_leg : Good s R → InLimits q → CardsDiffer q → (why : Refusal) → first_fault leg_faults ≡ fault why → Told why
   by_leg g l d why e =
@@ -170,14 +172,14 @@ module _ (s : List ℕ) (q : Question) where
   by_cards g t why e =
       ⊎_elim (λ b. rw (← b.1) (card_twice g (limits_mean q t) (λ d. never (means_differ q d) (not-true (cards_differ (card_slots q)) b.0))))
       (λ b. by_leg g (limits_mean q t) (differ_means q (not-false (cards_differ (card_slots q)) b.0)) why b.1)
-      (one_fault (not (cards_differ (card_slots q))) 17 0 0 leg_faults e)
+      (one_fault (not (cards_differ (card_slots q))) CardTwice 0 0 leg_faults e)
 
   by_price : Good s R → (why : Refusal) → first_fault (price_checks R q) ≡ fault why → Told why
   unfolding price_checks
   by_price g why e =
       ⊎_elim (λ b. rw (← b.1) (outside_limits g (λ l. never (means_limits q l) (not-true (in_limits q) b.0))))
       (λ b. by_cards g (not-false (in_limits q) b.0) why b.1)
-      (one_fault (not (in_limits q)) 11 0 0 (cards ∷ leg_faults) e)
+      (one_fault (not (in_limits q)) OutsideLimits 0 0 (cards ∷ leg_faults) e)
 
   -- with what that means;
   pub no_fare_means : (why : Refusal) → fare_of s q ≡ Err why → Told why
@@ -202,8 +204,8 @@ module _ (s : List ℕ) (q : Question) where
   unfolding fare_checks price_checks
   all_clean g l d h =
       clean_append (checks s) (price_checks R q) (good_clean g)
-      (clean_one (not (in_limits q)) 11 0 0 (cards ∷ leg_faults) (rw (means_limits q l))
-      (clean_one (not (cards_differ (card_slots q))) 17 0 0 leg_faults (rw (means_differ q d))
+      (clean_one (not (in_limits q)) OutsideLimits 0 0 (cards ∷ leg_faults) (rw (means_limits q l))
+      (clean_one (not (cards_differ (card_slots q))) CardTwice 0 0 leg_faults (rw (means_differ q d))
       (clean_each (leg_checks R q) no_leg 0 (legs_of q) (λ k m. legs_clean g d q.count (omega arith) h k (omega (arith, as_many R q))))))
 
   answered_by : (fare : ℕ) (parts : List ℕ) → IsFare s R q fare parts → fare_of s q ≡ Ok (quote fare parts)
@@ -218,14 +220,14 @@ module _ (s : List ℕ) (q : Question) where
           ⊎_elim (λ l. (means_priced s R f.good q (leg_at q k) k f.cards_apart _ (f.leg_by_leg k l)).1 ∙ sym (part_of_leg R q k l))
           (λ l. f.none_beyond k l ∙ sym (none_beyond R q k l)) (side k q.count)
 
-  refused_by : (n p d : ℕ) → NoFare s R (rest_of s) q n p d → fare_of s q ≡ Err (refuse n p d)
+  refused_by : (n : Reason) (p d : ℕ) → NoFare s R (rest_of s) q n p d → fare_of s q ≡ Err (refuse n p d)
   unfolding fare_checks price_checks first_fault
   refused_by n p d (faulty f) = fault_refused (refuse n p d) (fault_append (checks s) (price_checks R q) ∙ rw (means_fault s n p d f))
   refused_by n p d (outside_limits g l) =
-      fault_refused (refuse 11 0 0)
+      fault_refused (refuse OutsideLimits 0 0)
       (fault_append (checks s) (price_checks R q) ∙ rw (good_clean g, refuted (in_limits q) (λ e. l (limits_mean q e))))
   refused_by n p d (card_twice g l c) =
-      fault_refused (refuse 17 0 0)
+      fault_refused (refuse CardTwice 0 0)
       (fault_append (checks s) (price_checks R q) ∙ rw (good_clean g, means_limits q l, refuted (cards_differ (card_slots q)) (λ e. c (differ_means q e))))
   refused_by n p d (at_leg g l c k m h {d = f} t) =
       fault_refused (refuse n k f)
@@ -243,7 +245,7 @@ pub means_fare : (s : List ℕ) (R : List Rec) (q : Question) (fare : ℕ) (part
     → fare_of s q ≡ Ok (quote fare parts)
 means_fare s R q fare parts f = answered_by s q fare parts (rw (recut s R f.good) f)
 
-pub means_no_fare : (s : List ℕ) (R : List Rec) (rest : List ℕ) → Cut s R rest → (q : Question) (n p d : ℕ) → NoFare s R rest q n p d
+pub means_no_fare : (s : List ℕ) (R : List Rec) (rest : List ℕ) → Cut s R rest → (q : Question) (n : Reason) (p d : ℕ) → NoFare s R rest q n p d
     → fare_of s q ≡ Err (refuse n p d)
 means_no_fare s R rest c q n p d f = let e = cut_only s R rest c in refused_by s q n p d (rw (e.0, e.1) f)
 

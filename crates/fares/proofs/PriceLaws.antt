@@ -10,6 +10,7 @@ use native.Mathlib.Omega.{arith}
 use lib.ListN.{length, take, drop, get_or, set, replicate}
 use lib.Seq.{take_all}
 use Rattle.std.specs.Prelude.{Ok, Err}
+use Rattle.common.specs.declared.reasons.Reason.TheVariants.{OutsideLimits, CardTwice}
 use Rattle.common.specs.Lists.{sum}
 use Rattle.common.specs.Checks.{refuse, Finding, clean, fault, first_fault, each_from}
 use Rattle.common.specs.declared.Refusal.{Refusal}
@@ -39,11 +40,11 @@ module _ (R : List Rec) (q : Question) where
   unfolding price_of
   no_fare_told e f = as_found _ e f
 
-  pub limits_fail : {x : Refusal} → in_limits q ≡ false → x ≡ refuse 11 0 0 → Err x ≡ price_of R q
+  pub limits_fail : {x : Refusal} → in_limits q ≡ false → x ≡ refuse OutsideLimits 0 0 → Err x ≡ price_of R q
   unfolding price_checks first_fault
   limits_fail e = no_fare_told (rw e)
 
-  pub cards_fail : {x : Refusal} → in_limits q ≡ true → cards_differ (card_slots q) ≡ false → x ≡ refuse 17 0 0 → Err x ≡ price_of R q
+  pub cards_fail : {x : Refusal} → in_limits q ≡ true → cards_differ (card_slots q) ≡ false → x ≡ refuse CardTwice 0 0 → Err x ≡ price_of R q
   unfolding price_checks first_fault
   cards_fail e f = no_fare_told (rw (e, f))
 

@@ -1,6 +1,7 @@
 -- The fare of a ticket: the checks in their order, the parts and their sum (document 01, 'Pricing' and 'The sales book', its last line).
 -- Assumes nothing.
 use Rattle.std.specs.Prelude.{ℕ, ◌-◌, not, List, ◌∷◌, ◌++◌, map, replicate, Result}
+use Rattle.common.specs.declared.reasons.Reason.TheVariants.{OutsideLimits, CardTwice}
 use Rattle.common.specs.Lists.{sum}
 use Rattle.common.specs.Checks.{Finding, Check, check, unless, first_fault, each_from}
 use Rattle.common.specs.declared.Refusal.{Refusal}
@@ -18,8 +19,8 @@ parts_of R q = map (part_of R q) (legs_of q) ++ replicate (8 - q.count) 0
 -- 11, 17, then the legs from the first, each for 12, 13, 14, 15
 unfoldable pub price_checks : List Rec → Question → List Check
 price_checks R q =
-    check (not (in_limits q)) 11 0 0 ∷
-    check (not (cards_differ (card_slots q))) 17 0 0 ∷
+    check (not (in_limits q)) OutsideLimits 0 0 ∷
+    check (not (cards_differ (card_slots q))) CardTwice 0 0 ∷
     each_from 0 (leg_checks R q) (legs_of q)
 
 -- "A fare may also be asked without a book: verdict, 11, 12 to 15", with "17, a card given twice, directly after 11"; number 16 went with R-13

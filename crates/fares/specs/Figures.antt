@@ -1,8 +1,8 @@
 -- The figures of document 01 that are to be proved, and some beside them, in one list. Fares are asked of the engine itself: what it answers to a question, from a bundle that is written out.
 -- Assumes nothing.
-use Rattle.std.specs.Prelude.{ℕ, ◌-◌, ◌*◌, ◌≡◌, true, false, List, [], ◌∷◌, ◌++◌, replicate, Ok, Err}
+use Rattle.std.specs.Prelude.{ℕ, ◌-◌, ◌*◌, ◌≡◌, true, false, List, [], ◌∷◌, ◌++◌, replicate, Ok}
 use Rattle.common.specs.Lists.{first_of}
-use Rattle.common.specs.Checks.{refuse}
+use Rattle.common.specs.Reasons.{numbers_told}
 use Rattle.layout.specs.Bytes.{byte_plus, byte_minus, byte_0, byte_N, byte_Y}
 use Rattle.layout.specs.Dates.{is_day}
 use Rattle.fares.specs.Rounding.{unit}
@@ -28,7 +28,7 @@ pub data Figure : Type 0 where
 abbrev pub Says : Figure → Type 0
 Says (exact fare discount amount) = fare * (unit - discount) ≡ amount
 Says (asked bundle q fare parts) = fare_of bundle q ≡ Ok (quote fare (first_of 0 8 parts))
-Says (turned_away bundle q number) = fare_of bundle q ≡ Err (refuse number 0 0)
+Says (turned_away bundle q number) = numbers_told (fare_of bundle q) ≡ number ∷ 0 ∷ 0 ∷ []
 Says (bound cards cents) = part_bound cards ≡ cents
 Says (eight_parts cards cents) = 8 * part_bound cards ≡ cents
 Says (greatest_fare_figure cents) = greatest_fare ≡ cents

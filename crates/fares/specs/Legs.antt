@@ -2,6 +2,7 @@
 -- Assumes nothing.
 use Rattle.std.specs.Prelude.{ℕ, ◌*◌, Bool, true, false, cond, not, ◌&&◌, eqb, leb, get_or}
 use mathlib.Core.List.{List, [], ◌∷◌, map, flat_map}
+use Rattle.common.specs.declared.reasons.Reason.TheVariants.{NoConditions, DayOutside, PersonsOutside, ConditionUnread}
 use Rattle.common.specs.Checks.{Check, check}
 use Rattle.layout.specs.Layout.{CO, AR}
 use Rattle.layout.specs.Fields.{number_in, is_yes}
@@ -69,8 +70,8 @@ first_set (f ∷ fs) co = cond (is_yes CO f co) f (first_set fs co)
 abbrev pub condition_checks : Question → ℕ → List ℕ → List Check
 condition_checks q k co =
     let f : ℕ = first_set unread co in
-    check (not (persons_fit co q.persons)) 14 k 0 ∷
-    check (not (eqb f 0)) 15 k f ∷
+    check (not (persons_fit co q.persons)) PersonsOutside k 0 ∷
+    check (not (eqb f 0)) ConditionUnread k f ∷
     []
 
 abbrev pub is_nothing : Choice → Bool
@@ -87,8 +88,8 @@ is_off_day Nothing = false
 abbrev pub leg_checks : List Rec → Question → ℕ → Leg → List Check
 leg_checks R q k leg =
     let c : Choice = conditions_for R q leg in
-    check (is_nothing c) 12 k 0 ∷
-    check (is_off_day c) 13 k 0 ∷
+    check (is_nothing c) NoConditions k 0 ∷
+    check (is_off_day c) DayOutside k 0 ∷
     condition_checks q k (body_of R c)
 
 -- the plain fare after the CO, and then after the cards; "The leg's part is the result times the persons"

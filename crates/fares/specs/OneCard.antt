@@ -2,6 +2,7 @@
 -- that such a question is answered as it was, and it looks at the first slot alone. Which records a leg uses is today's choice (document 02, R-2).
 -- Assumes nothing.
 use Rattle.std.specs.Prelude.{ℕ, ◌-◌, ◌*◌, ◌<◌, ◌≡◌, Bool, cond, not, ◌&&◌, List, [], ◌∷◌, ◌++◌, map, eqb, replicate, Result}
+use Rattle.common.specs.declared.reasons.Reason.TheVariants.{OutsideLimits}
 use Rattle.common.specs.Lists.{every}
 use Rattle.common.specs.declared.Refusal.{Refusal}
 use Rattle.common.specs.Checks.{Check, check, first_fault, each_from}
@@ -53,7 +54,7 @@ base_parts R q = map (base_part R q) (legs_of q) ++ replicate (8 - q.count) 0
 
 -- "verdict, 11, 12 to 15"; number 16, which came last, was never met
 abbrev pub base_price : List Rec → Question → List Check
-base_price R q = check (not (base_in_limits q)) 11 0 0 ∷ each_from 0 (leg_checks R q) (legs_of q)
+base_price R q = check (not (base_in_limits q)) OutsideLimits 0 0 ∷ each_from 0 (leg_checks R q) (legs_of q)
 
 unfoldable pub base_checks : List ℕ → Question → List Check
 base_checks s q = checks s ++ base_price (records_of s) q

@@ -9,7 +9,7 @@ use super::records::{Cards, LegRecords};
 use super::reductions::reduce;
 use super::{Leg, Question};
 use choice::Choice;
-use common::Refusal;
+use common::{Reason, Refusal};
 
 // The conditions that the engine does not read, by their fields.
 const UNREAD: [u32; 5] = [27, 31, 32, 34, 35];
@@ -57,11 +57,11 @@ fn price_by<'a>(
 {
     let persons = q.persons;
     if !persons_fit(co, persons) {
-        return Err(common::refuse(14, k, 0));
+        return Err(common::refuse(Reason::PersonsOutside, k, 0));
     }
     let unread = first_unread(co);
     if unread != 0 {
-        return Err(common::refuse(15, k, unread as usize));
+        return Err(common::refuse(Reason::ConditionUnread, k, unread as usize));
     }
     let reduced = reduce(leg.fare as u64, layout::fields::conditions_grant(co));
     let amount = after_cards(bundle, cards, reduced);
@@ -82,8 +82,8 @@ fn price_from(
     let conditions = records.conditions;
     let cards = records.cards;
     match conditions {
-        Choice::Nothing => Err(common::refuse(12, k, 0)),
-        Choice::NotThatDay => Err(common::refuse(13, k, 0)),
+        Choice::Nothing => Err(common::refuse(Reason::NoConditions, k, 0)),
+        Choice::NotThatDay => Err(common::refuse(Reason::DayOutside, k, 0)),
         Choice::At(place) => price_by(
             bundle,
             q,

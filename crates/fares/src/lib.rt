@@ -13,7 +13,7 @@ mod records;
 mod reductions;
 mod rounding;
 
-use common::Refusal;
+use common::{Reason, Refusal};
 
 // A leg: its railway, and the plain fare per person in cents.
 #[repr(C)]
@@ -47,11 +47,11 @@ fn price(bundle: &[u8], q: Question) -> Result<Quote, Refusal>
     ensures { result ≡ price_of (records_of bundle.now) q }
 {
     if !limits::in_limits(q) {
-        return Err(common::refuse(11, 0, 0));
+        return Err(common::refuse(Reason::OutsideLimits, 0, 0));
     }
     let cards = q.cards;
     if !limits::cards_differ(cards) {
-        return Err(common::refuse(17, 0, 0));
+        return Err(common::refuse(Reason::CardTwice, 0, 0));
     }
     let legs = q.legs;
     let mut parts = [0u32; 8];

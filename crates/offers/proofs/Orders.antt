@@ -9,6 +9,8 @@ use native.Mathlib.Omega.{arith}
 use lib.Dec.{eqb, leb}
 use lib.ListN.{length, get_or, replicate}
 use Rattle.std.specs.Prelude.{Result, Ok, Err}
+use Rattle.common.specs.Reasons.{number_of_reason}
+use Rattle.common.specs.declared.reasons.Reason.TheVariants.{BookFull}
 use Rattle.common.specs.Lists.{every, any, sum}
 use Rattle.common.specs.Checks.{Finding, clean, fault, Check, check, unless, first_fault, each_from, TellsOf}
 use Rattle.common.specs.declared.Refusal.{Refusal}
@@ -32,8 +34,7 @@ use Rattle.sales.specs.declared.Outcome.{Outcome}
 use Rattle.sales.specs.declared.Outcome.TheVariants.{Booked, AlreadyBooked, Cancelled, AlreadyCancelled}
 use Rattle.sales.proofs.AnswersByCase.{booked_parts}
 use Rattle.offers.specs.Answers.{Told, answers, refuses, tells_values, one_value, verdict_tells, quote_values, fare_tells, booked, already_booked, cancelled, already_cancelled, outcome_values, receipt_values, receipt_tells, sum_tells, tally_tells, booking_values, booking_width, booking_tells, Follows}
-use Rattle.offers.specs.Numbers.{Among, verdict_numbers, fare_numbers, sale_numbers, cancel_numbers, balance_numbers, total_numbers, count_numbers, entry_numbers, find_numbers, all_numbers}
-use Rattle.offers.specs.Numbers.{CallTells, by_verdict, by_fare, by_sale, by_cancel, by_balance, by_total, by_count, by_entry, by_find}
+use Rattle.offers.specs.Numbers.{Among, verdict_numbers, fare_numbers, sale_numbers, cancel_numbers, balance_numbers, total_numbers, count_numbers, entry_numbers, find_numbers, all_numbers, CallTells, by_verdict, by_fare, by_sale, by_cancel, by_balance, by_total, by_count, by_entry, by_find}
 
 -- WHAT IS TOLD by what the checks come to: a refusal with n zeros, or the values
 module _ {A : Type 0} (n : ℕ) (values : A → List ℕ) (a : A) where
@@ -144,7 +145,7 @@ module _ (s : List ℕ) where
   unfolding sale_checks every any
   sale_numbers_lem w t n q = new_or_not (is_present w t n)
     where
-      new_or_not : (b : Bool) → TellsOf sale_numbers (cond b [] (check (leb capacity (length (entries w))) 24 0 0 ∷ fare_checks s q))
+      new_or_not : (b : Bool) → TellsOf sale_numbers (cond b [] (check (leb capacity (length (entries w))) BookFull 0 0 ∷ fare_checks s q))
       new_or_not true = refl
       new_or_not false = fare_among q (21 ∷ 22 ∷ 23 ∷ 24 ∷ [])
 
@@ -170,7 +171,7 @@ entry_numbers_lem w i = refl
 
 -- a refusal tells one of its call's numbers
 refused_among : {t : Told} {cs : List Check} {n : ℕ} {vs : List ℕ} (ns : List ℕ) → Follows t cs n vs → TellsOf ns cs
-    → (why : Refusal) (us : List ℕ) → t ≡ refuses why us → Among ns why.number
+    → (why : Refusal) (us : List ℕ) → t ≡ refuses why us → Among ns (number_of_reason why.reason)
 refused_among {cs = cs} ns f e why us h = first_among ns cs e why (f.refused_by why us h).0
 
 -- What is told tells the answer.
@@ -225,50 +226,50 @@ unfolding tells_values outcome_values
 cancelled_told {x = x} a e = rw (a, e)
 
 -- NO CALL TELLS A NUMBER that is not in its table.
-pub the_numbers_of_a_verdict : (bundle : List ℕ) (why : Refusal) (us : List ℕ) → verdict_tells (verdict_of bundle) ≡ refuses why us → Among verdict_numbers why.number
+pub the_numbers_of_a_verdict : (bundle : List ℕ) (why : Refusal) (us : List ℕ) → verdict_tells (verdict_of bundle) ≡ refuses why us → Among verdict_numbers (number_of_reason why.reason)
 the_numbers_of_a_verdict bundle = refused_among verdict_numbers (verdict_follows bundle) (verdict_numbers_lem bundle)
 
-pub the_numbers_of_a_fare : (bundle : List ℕ) (q : Question) (why : Refusal) (us : List ℕ) → fare_tells (fare_of bundle q) ≡ refuses why us → Among fare_numbers why.number
+pub the_numbers_of_a_fare : (bundle : List ℕ) (q : Question) (why : Refusal) (us : List ℕ) → fare_tells (fare_of bundle q) ≡ refuses why us → Among fare_numbers (number_of_reason why.reason)
 the_numbers_of_a_fare bundle q = refused_among fare_numbers (fare_follows bundle q) (fare_numbers_lem bundle q)
 
 pub the_numbers_of_a_sale : (book : List ℕ) (till sequence : ℕ) (bundle : List ℕ) (q : Question) (why : Refusal) (us : List ℕ)
-    → receipt_tells (sale_answer book till sequence bundle q) ≡ refuses why us → Among sale_numbers why.number
+    → receipt_tells (sale_answer book till sequence bundle q) ≡ refuses why us → Among sale_numbers (number_of_reason why.reason)
 the_numbers_of_a_sale book till sequence bundle q = refused_among sale_numbers (sale_follows book till sequence bundle q) (sale_numbers_lem bundle book till sequence q)
 
-pub the_numbers_of_a_cancellation : (book : List ℕ) (till sequence : ℕ) (why : Refusal) (us : List ℕ) → receipt_tells (cancel_answer book till sequence) ≡ refuses why us → Among cancel_numbers why.number
+pub the_numbers_of_a_cancellation : (book : List ℕ) (till sequence : ℕ) (why : Refusal) (us : List ℕ) → receipt_tells (cancel_answer book till sequence) ≡ refuses why us → Among cancel_numbers (number_of_reason why.reason)
 the_numbers_of_a_cancellation book till sequence = refused_among cancel_numbers (cancel_follows book till sequence) (cancel_numbers_lem book till sequence)
 
-pub the_numbers_of_a_balance : (book : List ℕ) (railway : ℕ) (why : Refusal) (us : List ℕ) → sum_tells (balance_answer book railway) ≡ refuses why us → Among balance_numbers why.number
+pub the_numbers_of_a_balance : (book : List ℕ) (railway : ℕ) (why : Refusal) (us : List ℕ) → sum_tells (balance_answer book railway) ≡ refuses why us → Among balance_numbers (number_of_reason why.reason)
 the_numbers_of_a_balance book railway = refused_among balance_numbers (balance_follows book railway) (balance_numbers_lem book railway)
 
-pub the_numbers_of_a_total : (book : List ℕ) (why : Refusal) (us : List ℕ) → sum_tells (total_answer book) ≡ refuses why us → Among total_numbers why.number
+pub the_numbers_of_a_total : (book : List ℕ) (why : Refusal) (us : List ℕ) → sum_tells (total_answer book) ≡ refuses why us → Among total_numbers (number_of_reason why.reason)
 the_numbers_of_a_total book = refused_among total_numbers (total_follows book) (total_numbers_lem book)
 
-pub the_numbers_of_a_count : (book : List ℕ) (why : Refusal) (us : List ℕ) → tally_tells (count_answer book) ≡ refuses why us → Among count_numbers why.number
+pub the_numbers_of_a_count : (book : List ℕ) (why : Refusal) (us : List ℕ) → tally_tells (count_answer book) ≡ refuses why us → Among count_numbers (number_of_reason why.reason)
 the_numbers_of_a_count book = refused_among count_numbers (count_follows book) (count_numbers_lem book)
 
-pub the_numbers_of_an_entry : (book : List ℕ) (i : ℕ) (why : Refusal) (us : List ℕ) → booking_tells (entry_answer book i) ≡ refuses why us → Among entry_numbers why.number
+pub the_numbers_of_an_entry : (book : List ℕ) (i : ℕ) (why : Refusal) (us : List ℕ) → booking_tells (entry_answer book i) ≡ refuses why us → Among entry_numbers (number_of_reason why.reason)
 the_numbers_of_an_entry book i = refused_among entry_numbers (entry_follows book i) (entry_numbers_lem book i)
 
-pub the_numbers_of_a_find : (book : List ℕ) (till sequence : ℕ) (why : Refusal) (us : List ℕ) → booking_tells (find_answer book till sequence) ≡ refuses why us → Among find_numbers why.number
+pub the_numbers_of_a_find : (book : List ℕ) (till sequence : ℕ) (why : Refusal) (us : List ℕ) → booking_tells (find_answer book till sequence) ≡ refuses why us → Among find_numbers (number_of_reason why.reason)
 the_numbers_of_a_find book till sequence = refused_among find_numbers (find_follows book till sequence) (cancel_numbers_lem book till sequence)
 
 -- So each number that any call tells stands in the table of all; 16, a fare above 4,294,967,295 cents, does not, and no call tells it.
 within : (ns : List ℕ) (n : ℕ) → every (λ k. any (eqb k) all_numbers) ns ≡ true → Among ns n → Among all_numbers n
 within = every_among (λ k. any (eqb k) all_numbers)
 
-pub the_numbers_of_any_call : (t : Told) → CallTells t → (why : Refusal) (us : List ℕ) → t ≡ refuses why us → Among all_numbers why.number
+pub the_numbers_of_any_call : (t : Told) → CallTells t → (why : Refusal) (us : List ℕ) → t ≡ refuses why us → Among all_numbers (number_of_reason why.reason)
 unfolding every any
-the_numbers_of_any_call t (by_verdict bundle) why us e = within verdict_numbers why.number refl (the_numbers_of_a_verdict bundle why us e)
-the_numbers_of_any_call t (by_fare bundle q) why us e = within fare_numbers why.number refl (the_numbers_of_a_fare bundle q why us e)
-the_numbers_of_any_call t (by_sale book till sequence bundle q) why us e = within sale_numbers why.number refl (the_numbers_of_a_sale book till sequence bundle q why us e)
-the_numbers_of_any_call t (by_cancel book till sequence) why us e = within cancel_numbers why.number refl (the_numbers_of_a_cancellation book till sequence why us e)
-the_numbers_of_any_call t (by_balance book railway) why us e = within balance_numbers why.number refl (the_numbers_of_a_balance book railway why us e)
-the_numbers_of_any_call t (by_total book) why us e = within total_numbers why.number refl (the_numbers_of_a_total book why us e)
-the_numbers_of_any_call t (by_count book) why us e = within count_numbers why.number refl (the_numbers_of_a_count book why us e)
-the_numbers_of_any_call t (by_entry book i) why us e = within entry_numbers why.number refl (the_numbers_of_an_entry book i why us e)
-the_numbers_of_any_call t (by_find book till sequence) why us e = within find_numbers why.number refl (the_numbers_of_a_find book till sequence why us e)
+the_numbers_of_any_call t (by_verdict bundle) why us e = within verdict_numbers (number_of_reason why.reason) refl (the_numbers_of_a_verdict bundle why us e)
+the_numbers_of_any_call t (by_fare bundle q) why us e = within fare_numbers (number_of_reason why.reason) refl (the_numbers_of_a_fare bundle q why us e)
+the_numbers_of_any_call t (by_sale book till sequence bundle q) why us e = within sale_numbers (number_of_reason why.reason) refl (the_numbers_of_a_sale book till sequence bundle q why us e)
+the_numbers_of_any_call t (by_cancel book till sequence) why us e = within cancel_numbers (number_of_reason why.reason) refl (the_numbers_of_a_cancellation book till sequence why us e)
+the_numbers_of_any_call t (by_balance book railway) why us e = within balance_numbers (number_of_reason why.reason) refl (the_numbers_of_a_balance book railway why us e)
+the_numbers_of_any_call t (by_total book) why us e = within total_numbers (number_of_reason why.reason) refl (the_numbers_of_a_total book why us e)
+the_numbers_of_any_call t (by_count book) why us e = within count_numbers (number_of_reason why.reason) refl (the_numbers_of_a_count book why us e)
+the_numbers_of_any_call t (by_entry book i) why us e = within entry_numbers (number_of_reason why.reason) refl (the_numbers_of_an_entry book i why us e)
+the_numbers_of_any_call t (by_find book till sequence) why us e = within find_numbers (number_of_reason why.reason) refl (the_numbers_of_a_find book till sequence why us e)
 
-pub no_call_tells_sixteen : (t : Told) → CallTells t → (why : Refusal) (us : List ℕ) → t ≡ refuses why us → why.number ≡ 16 → ⊥
+pub no_call_tells_sixteen : (t : Told) → CallTells t → (why : Refusal) (us : List ℕ) → t ≡ refuses why us → number_of_reason why.reason ≡ 16 → ⊥
 unfolding any
 no_call_tells_sixteen t c why us e sixteen = never (rw sixteen at (the_numbers_of_any_call t c why us e)) refl

@@ -13,6 +13,8 @@ use lib.Dec.{eqb}
 use lib.ListN.{length, get_or, replicate}
 use borrow.Author.Tests.{le-leb}
 use Rattle.std.specs.Prelude.{Result, Ok, Err}
+use Rattle.common.specs.declared.reasons.Reason.{Reason}
+use Rattle.common.specs.declared.reasons.Reason.TheVariants.{OutsideLimits, BookUnsound, NumberOutside, NumberTaken, BookFull, SaleUnknown}
 use Rattle.common.specs.Lists.{every, any, sum, up_to}
 use Rattle.common.specs.Checks.{refuse}
 use Rattle.common.specs.declared.Refusal.{Refusal}
@@ -118,11 +120,11 @@ keeping_the_rules_is_accepted bundle R g = rw (good_accepted bundle R g)
 
 -- it is refused only if the record of that place breaks that rule and none before it breaks any, and if it does.
 pub a_refusal_names_the_first_fault : (bundle : List ℕ) (why : Refusal) (us : List ℕ) → verdict_tells (verdict_of bundle) ≡ refuses why us
-    → Fault bundle (records_of bundle) (rest_of bundle) why.number why.place why.detail
+    → Fault bundle (records_of bundle) (rest_of bundle) why.reason why.place why.detail
 a_refusal_names_the_first_fault bundle why us e = refused_fault bundle why (told_err 1 one_value (verdict_of bundle) e)
 
-pub the_first_fault_is_refused : (bundle : List ℕ) (R : List Rec) (rest : List ℕ) → Cut bundle R rest → (number place detail : ℕ)
-    → Fault bundle R rest number place detail → verdict_tells (verdict_of bundle) ≡ refuses (refuse number place detail) (0 ∷ [])
+pub the_first_fault_is_refused : (bundle : List ℕ) (R : List Rec) (rest : List ℕ) → Cut bundle R rest → (reason : Reason) (place detail : ℕ)
+    → Fault bundle R rest reason place detail → verdict_tells (verdict_of bundle) ≡ refuses (refuse reason place detail) (0 ∷ [])
 unfolding tells_values
 the_first_fault_is_refused bundle R rest c n p d f = rw (fault_refused bundle R rest c n p d f)
 
@@ -266,11 +268,11 @@ the_cards_of_a_question_differ q = (differ_means q, means_differ q)
 -- A fare is refused only for a fault of the bundle, a question outside its limits (11) or with a card given twice (17), or the first leg that has no CO (12), none that is valid (13), other persons (14)
 -- or a condition unread (15); and if that is so.
 pub a_refused_fare_says_why : (bundle : List ℕ) (q : Question) (why : Refusal) (us : List ℕ) → fare_tells (fare_of bundle q) ≡ refuses why us
-    → NoFare bundle (records_of bundle) (rest_of bundle) q why.number why.place why.detail
+    → NoFare bundle (records_of bundle) (rest_of bundle) q why.reason why.place why.detail
 a_refused_fare_says_why bundle q why us e = no_fare_means bundle q why (told_err 9 quote_values (fare_of bundle q) e)
 
-pub what_says_why_refuses_the_fare : (bundle : List ℕ) (R : List Rec) (rest : List ℕ) → Cut bundle R rest → (q : Question) (number place detail : ℕ)
-    → NoFare bundle R rest q number place detail → fare_tells (fare_of bundle q) ≡ refuses (refuse number place detail) (replicate 9 0)
+pub what_says_why_refuses_the_fare : (bundle : List ℕ) (R : List Rec) (rest : List ℕ) → Cut bundle R rest → (q : Question) (reason : Reason) (place detail : ℕ)
+    → NoFare bundle R rest q reason place detail → fare_tells (fare_of bundle q) ≡ refuses (refuse reason place detail) (replicate 9 0)
 unfolding tells_values
 what_says_why_refuses_the_fare bundle R rest c q n p d f = rw (means_no_fare bundle R rest c q n p d f)
 
@@ -345,19 +347,19 @@ the_cards_of_an_entry_are_counted = entry_cards
 
 module _ (book : List ℕ) (unsound : Sound book → ⊥) where
   pub an_unsound_book_sells_nothing : (till sequence : ℕ) (bundle : List ℕ) (q : Question)
-      → receipt_tells (sale_answer book till sequence bundle q) ≡ refuses (refuse 21 0 0) (replicate 10 0)
+      → receipt_tells (sale_answer book till sequence bundle q) ≡ refuses (refuse BookUnsound 0 0) (replicate 10 0)
   unfolding tells_values outcome_values
   an_unsound_book_sells_nothing till sequence bundle q = rw (unsound_sale book unsound till sequence bundle q)
 
-  pub an_unsound_book_cancels_nothing : (till sequence : ℕ) → receipt_tells (cancel_answer book till sequence) ≡ refuses (refuse 21 0 0) (replicate 10 0)
+  pub an_unsound_book_cancels_nothing : (till sequence : ℕ) → receipt_tells (cancel_answer book till sequence) ≡ refuses (refuse BookUnsound 0 0) (replicate 10 0)
   unfolding tells_values outcome_values
   an_unsound_book_cancels_nothing till sequence = rw (unsound_cancel book unsound till sequence)
 
-  pub an_unsound_book_has_no_balance : (railway : ℕ) → sum_tells (balance_answer book railway) ≡ refuses (refuse 21 0 0) (0 ∷ [])
+  pub an_unsound_book_has_no_balance : (railway : ℕ) → sum_tells (balance_answer book railway) ≡ refuses (refuse BookUnsound 0 0) (0 ∷ [])
   unfolding tells_values
   an_unsound_book_has_no_balance railway = rw (unsound_balance book unsound railway)
 
-  pub an_unsound_book_has_no_total : sum_tells (total_answer book) ≡ refuses (refuse 21 0 0) (0 ∷ [])
+  pub an_unsound_book_has_no_total : sum_tells (total_answer book) ≡ refuses (refuse BookUnsound 0 0) (0 ∷ [])
   unfolding tells_values
   an_unsound_book_has_no_total = rw (unsound_total book unsound)
 
@@ -389,7 +391,7 @@ module _ (book : List ℕ) (sound : Sound book) where
   unfolding tells_values
   the_total_of_a_sound_book = rw (book_total book sound)
 
-  pub no_railway_no_balance : (railway : ℕ) → ((1 ≤ railway) × (railway ≤ 9999) → ⊥) → sum_tells (balance_answer book railway) ≡ refuses (refuse 11 0 0) (0 ∷ [])
+  pub no_railway_no_balance : (railway : ℕ) → ((1 ≤ railway) × (railway ≤ 9999) → ⊥) → sum_tells (balance_answer book railway) ≡ refuses (refuse OutsideLimits 0 0) (0 ∷ [])
   unfolding tells_values
   no_railway_no_balance railway n = rw (no_railway book sound railway n)
 
@@ -412,11 +414,11 @@ the_limits_of_a_sale_number n = (
 -- question; another question is refused with 23 at that entry.
 module _ (book : List ℕ) (sound : Sound book) (n : Number) where
   pub no_number_no_sale : is_number n ≡ false → (bundle : List ℕ) (q : Question)
-      → receipt_tells (sale_answer book n.till n.sequence bundle q) ≡ refuses (refuse 22 0 0) (replicate 10 0)
+      → receipt_tells (sale_answer book n.till n.sequence bundle q) ≡ refuses (refuse NumberOutside 0 0) (replicate 10 0)
   unfolding tells_values outcome_values
   no_number_no_sale e bundle q = rw (sale_without_number book sound n e bundle q)
 
-  pub no_number_no_cancellation : is_number n ≡ false → receipt_tells (cancel_answer book n.till n.sequence) ≡ refuses (refuse 22 0 0) (replicate 10 0)
+  pub no_number_no_cancellation : is_number n ≡ false → receipt_tells (cancel_answer book n.till n.sequence) ≡ refuses (refuse NumberOutside 0 0) (replicate 10 0)
   unfolding tells_values outcome_values
   no_number_no_cancellation e = rw (cancel_without_number book sound n e)
 
@@ -430,7 +432,7 @@ module _ (book : List ℕ) (sound : Sound book) (n : Number) where
     a_sale_in_the_book_is_told bundle q e = rw (same_sale book sound n number i inside held bundle q e)
 
     pub its_number_is_not_used_again : (bundle : List ℕ) (q : Question) → (SameQuestion (question_of entry.asked) q → ⊥)
-        → receipt_tells (sale_answer book n.till n.sequence bundle q) ≡ refuses (refuse 23 i 0) (replicate 10 0)
+        → receipt_tells (sale_answer book n.till n.sequence bundle q) ≡ refuses (refuse NumberTaken i 0) (replicate 10 0)
     unfolding tells_values outcome_values
     its_number_is_not_used_again bundle q e = rw (other_sale book sound n number i inside held bundle q e)
 
@@ -446,12 +448,12 @@ module _ (book : List ℕ) (sound : Sound book) (n : Number) where
 -- One that no entry holds is unknown to a cancellation (25); its sale is refused by 24 in a full book, and in one with room is booked with the parts of its fare, or
 -- refused as that is: so also in a stored book that goes on with several cards.
 module _ (book : List ℕ) (sound : Sound book) (n : Number) (number : is_number n ≡ true) (nowhere : HeldNowhere book n.till n.sequence) where
-  pub what_no_entry_holds_is_not_cancelled : receipt_tells (cancel_answer book n.till n.sequence) ≡ refuses (refuse 25 0 0) (replicate 10 0)
+  pub what_no_entry_holds_is_not_cancelled : receipt_tells (cancel_answer book n.till n.sequence) ≡ refuses (refuse SaleUnknown 0 0) (replicate 10 0)
   unfolding tells_values outcome_values
   what_no_entry_holds_is_not_cancelled = rw (unknown_cancel book sound n number nowhere)
 
   module _ (bundle : List ℕ) (q : Question) where
-    pub a_full_sound_book_takes_no_sale : 256 ≤ count_of book → receipt_tells (sale_answer book n.till n.sequence bundle q) ≡ refuses (refuse 24 0 0) (replicate 10 0)
+    pub a_full_sound_book_takes_no_sale : 256 ≤ count_of book → receipt_tells (sale_answer book n.till n.sequence bundle q) ≡ refuses (refuse BookFull 0 0) (replicate 10 0)
     unfolding tells_values outcome_values
     a_full_sound_book_takes_no_sale f = rw (sale_when_full book sound n number nowhere bundle q f)
 
@@ -489,7 +491,7 @@ module _ (ops : List Op) where
   -- A number that was never booked is unknown to a cancellation (25); its sale is refused after 256 bookings (24), and before is booked with the parts of its
   -- fare, or refused as that is.
   module _ (n : Number) (number : is_number n ≡ true) (new : is_in n (booked_by [] ops) ≡ false) where
-    pub an_unknown_sale_is_not_cancelled : receipt_tells (cancel_answer (after empty_book ops) n.till n.sequence) ≡ refuses (refuse 25 0 0) (replicate 10 0)
+    pub an_unknown_sale_is_not_cancelled : receipt_tells (cancel_answer (after empty_book ops) n.till n.sequence) ≡ refuses (refuse SaleUnknown 0 0) (replicate 10 0)
     unfolding tells_values outcome_values
     an_unknown_sale_is_not_cancelled = rw (unknown_is_told ops n number new)
 
@@ -497,7 +499,7 @@ module _ (ops : List Op) where
       abbrev told : Told
       told = receipt_tells (sale_answer (after empty_book ops) n.till n.sequence bundle q)
 
-      pub a_full_book_takes_no_sale : 256 ≤ length (booked_by [] ops) → told ≡ refuses (refuse 24 0 0) (replicate 10 0)
+      pub a_full_book_takes_no_sale : 256 ≤ length (booked_by [] ops) → told ≡ refuses (refuse BookFull 0 0) (replicate 10 0)
       unfolding tells_values outcome_values
       a_full_book_takes_no_sale f = rw (full_is_told ops n number new bundle q f)
 
@@ -525,17 +527,17 @@ module _ (first : List Op) (n : Number) (bundle : List ℕ) (q : Question) (more
       rw (told_first first n bundle q more b.1 b.2 bundle' q' e) (ap (λ x. answers (already_booked ∷ cond (cancelled_in n more) 1 0 ∷ x)) (first_parts _ _ _ bundle q parts sold))
 
   pub another_question_is_refused : (bundle' : List ℕ) (q' : Question) → (SameQuestion q q' → ⊥)
-      → receipt_tells (sale_answer now n.till n.sequence bundle' q') ≡ refuses (refuse 23 (length (booked_by [] first)) 0) (replicate 10 0)
+      → receipt_tells (sale_answer now n.till n.sequence bundle' q') ≡ refuses (refuse NumberTaken (length (booked_by [] first)) 0) (replicate 10 0)
   unfolding tells_values outcome_values
   another_question_is_refused bundle' q' e = let b = told_booked _ parts sold in rw (refused_other first n bundle q more b.1 b.2 bundle' q' e)
 
   -- So is a question with another card in one of the four slots: the order of the cards is part of it, and 5 and 7 are not 7 and 5.
   pub another_card_is_refused : (bundle' : List ℕ) (q' : Question) (k : ℕ) → k < 4 → (card_at q k ≡ card_at q' k → ⊥)
-      → receipt_tells (sale_answer now n.till n.sequence bundle' q') ≡ refuses (refuse 23 (length (booked_by [] first)) 0) (replicate 10 0)
+      → receipt_tells (sale_answer now n.till n.sequence bundle' q') ≡ refuses (refuse NumberTaken (length (booked_by [] first)) 0) (replicate 10 0)
   another_card_is_refused bundle' q' k l other = another_question_is_refused bundle' q' (λ s. other (s.cards k l))
 
   pub swapped_cards_are_refused : (bundle' : List ℕ) (q' : Question) → q.cards ≡ 5 ∷ 7 ∷ 0 ∷ 0 ∷ [] → q'.cards ≡ 7 ∷ 5 ∷ 0 ∷ 0 ∷ []
-      → receipt_tells (sale_answer now n.till n.sequence bundle' q') ≡ refuses (refuse 23 (length (booked_by [] first)) 0) (replicate 10 0)
+      → receipt_tells (sale_answer now n.till n.sequence bundle' q') ≡ refuses (refuse NumberTaken (length (booked_by [] first)) 0) (replicate 10 0)
   swapped_cards_are_refused bundle' q' a b =
       another_card_is_refused bundle' q' 0 (omega arith)
       (λ e. let z : 5 ≡ 7 = sym (ap (λ cards. get_or cards 0 0) a) ∙ (e ∙ ap (λ cards. get_or cards 0 0) b) in absurd (omega (arith, z)))

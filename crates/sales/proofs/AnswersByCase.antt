@@ -10,6 +10,7 @@ use lib.Dec.{eqb, leb}
 use lib.ListN.{length}
 use borrow.Author.Tests.{lt-ltb, le-ltb, le-leb, lt-leb, leb-false, ltb-true, not-false}
 use Rattle.std.specs.Prelude.{Ok, Err}
+use Rattle.common.specs.declared.reasons.Reason.TheVariants.{BookUnsound, NumberOutside, NumberTaken, BookFull, SaleUnknown}
 use Rattle.common.specs.Lists.{same}
 use Rattle.common.specs.Checks.{refuse, Finding, clean, fault, check, unless, first_fault}
 use Rattle.common.specs.declared.Refusal.{Refusal}
@@ -42,17 +43,17 @@ module _ (w : List ℕ) (t s : ℕ) where
   the_present l = entry_is w at l
 
   module _ (b : List ℕ) (q : Question) where
-    pub sale_unsound : sound_words w ≡ false → sale_answer w t s b q ≡ Err (refuse 21 0 0)
+    pub sale_unsound : sound_words w ≡ false → sale_answer w t s b q ≡ Err (refuse BookUnsound 0 0)
     unfolding sale_answer sale_checks first_fault
     sale_unsound e = rw e
 
     module _ (ok : sound_words w ≡ true) where
-      pub sale_no_number : number_in_limits t s ≡ false → sale_answer w t s b q ≡ Err (refuse 22 0 0)
+      pub sale_no_number : number_in_limits t s ≡ false → sale_answer w t s b q ≡ Err (refuse NumberOutside 0 0)
       unfolding sale_answer sale_checks first_fault
       sale_no_number e = rw (ok, e)
 
       module _ (n : number_in_limits t s ≡ true) where
-        by_question : (d : Bool) (i : ℕ) (r : Receipt) → unless (first_fault (check (not d) 23 i 0 ∷ [])) r ≡ cond d (Ok r) (Err (refuse 23 i 0))
+        by_question : (d : Bool) (i : ℕ) (r : Receipt) → unless (first_fault (check (not d) NumberTaken i 0 ∷ [])) r ≡ cond d (Ok r) (Err (refuse NumberTaken i 0))
         unfolding first_fault
         by_question true i r = refl
         by_question false i r = refl
@@ -67,7 +68,7 @@ module _ (w : List ℕ) (t s : ℕ) where
         sale_again l = present_again (is_present_lem l) ∙ ap (λ e. again_answer e at q) (the_present l)
 
         module _ (l : count_of w ≤ at) where
-          pub sale_full : capacity ≤ count_of w → sale_answer w t s b q ≡ Err (refuse 24 0 0)
+          pub sale_full : capacity ≤ count_of w → sale_answer w t s b q ≡ Err (refuse BookFull 0 0)
           unfolding sale_answer sale_checks first_fault
           sale_full f = rw (ok, n, is_absent l, entries_length w, le-leb capacity (count_of w) f)
 
@@ -79,17 +80,17 @@ module _ (w : List ℕ) (t s : ℕ) where
   abbrev pub looked : Finding
   looked = first_fault (cancel_checks w t s)
 
-  pub looked_unsound : sound_words w ≡ false → looked ≡ fault (refuse 21 0 0)
+  pub looked_unsound : sound_words w ≡ false → looked ≡ fault (refuse BookUnsound 0 0)
   unfolding cancel_checks first_fault
   looked_unsound e = rw e
 
   module _ (ok : sound_words w ≡ true) where
-    pub looked_no_number : number_in_limits t s ≡ false → looked ≡ fault (refuse 22 0 0)
+    pub looked_no_number : number_in_limits t s ≡ false → looked ≡ fault (refuse NumberOutside 0 0)
     unfolding cancel_checks first_fault
     looked_no_number e = rw (ok, e)
 
     module _ (n : number_in_limits t s ≡ true) where
-      pub looked_unknown : count_of w ≤ at → looked ≡ fault (refuse 25 0 0)
+      pub looked_unknown : count_of w ≤ at → looked ≡ fault (refuse SaleUnknown 0 0)
       unfolding cancel_checks first_fault
       looked_unknown l = rw (ok, n, is_absent l)
 
@@ -103,9 +104,9 @@ module _ (w : List ℕ) (t s : ℕ) where
   pub found_there : looked ≡ clean → (sound_words w ≡ true) × (number_in_limits t s ≡ true) × (at < count_of w)
   unfolding cancel_checks
   found_there e =
-      let a = one_clean (not (sound_words w)) 21 0 0 _ e in
-      let n = one_clean (not (number_in_limits t s)) 22 0 0 _ a.1 in
-      let d = one_clean (not (is_present w t s)) 25 0 0 _ n.1 in
+      let a = one_clean (not (sound_words w)) BookUnsound 0 0 _ e in
+      let n = one_clean (not (number_in_limits t s)) NumberOutside 0 0 _ a.1 in
+      let d = one_clean (not (is_present w t s)) SaleUnknown 0 0 _ n.1 in
       let p = ltb-true at (length (entries w)) (not-false (is_present w t s) d.0) in
       (not-false (sound_words w) a.0, not-false (number_in_limits t s) n.0, rw (entries_length w) at p)
 
@@ -168,7 +169,7 @@ module _ (b : List ℕ) (q : Question) where
   quote_priced quote e = by_price (first_fault (fare_checks b q)) (parts_of (records_of b) q) quote e
 
 module _ (e : Entry) (i : ℕ) (q : Question) where
-  pub again_other : same e.asked (question_words q) ≡ false → again_answer e i q ≡ Err (refuse 23 i 0)
+  pub again_other : same e.asked (question_words q) ≡ false → again_answer e i q ≡ Err (refuse NumberTaken i 0)
   unfolding again_answer
   again_other d = rw d
 
@@ -225,11 +226,11 @@ module _ (w : List ℕ) (t s : ℕ) (b : List ℕ) (q : Question) where
       pub booked_sound : (sound_words w ≡ true) × (number_in_limits t s ≡ true) × (count_of w < capacity)
       unfolding sale_checks
       booked_sound =
-          let a = one_clean (not (sound_words w)) 21 0 0 _ told.0 in
-          let n = one_clean (not (number_in_limits t s)) 22 0 0 _ a.1 in
-          let d = one_clean (is_present w t s && not (same (present w t s).asked (question_words q))) 23 (place w t s) 0 _ n.1 in
-          let c : first_fault (check (leb capacity (length (entries w))) 24 0 0 ∷ fare_checks b q) ≡ clean = rw told.1 at d.1 in
-          let l = (one_clean (leb capacity (length (entries w))) 24 0 0 (fare_checks b q) c).0 in
+          let a = one_clean (not (sound_words w)) BookUnsound 0 0 _ told.0 in
+          let n = one_clean (not (number_in_limits t s)) NumberOutside 0 0 _ a.1 in
+          let d = one_clean (is_present w t s && not (same (present w t s).asked (question_words q))) NumberTaken (place w t s) 0 _ n.1 in
+          let c : first_fault (check (leb capacity (length (entries w))) BookFull 0 0 ∷ fare_checks b q) ≡ clean = rw told.1 at d.1 in
+          let l = (one_clean (leb capacity (length (entries w))) BookFull 0 0 (fare_checks b q) c).0 in
           (not-false (sound_words w) a.0, not-false (number_in_limits t s) n.0, rw (entries_length w) at (leb-false capacity (length (entries w)) l))
 
       pub booked_parts : r.parts ≡ parts_of (records_of b) q

@@ -9,6 +9,7 @@ use lib.Dec.{leb}
 use lib.ListN.{length, get_or}
 use borrow.Author.Tests.{eq-eqb, le-leb, lt-ltb, le-ltb}
 use Rattle.std.specs.Prelude.{Ok, Err}
+use Rattle.common.specs.declared.reasons.Reason.TheVariants.{OutsideLimits, NumberOutside, NumberTaken, BookFull, SaleUnknown}
 use Rattle.common.specs.Lists.{same}
 use Rattle.common.specs.Checks.{clean, refuse, first_fault}
 use Rattle.common.specs.declared.Refusal.{Refusal}
@@ -46,7 +47,7 @@ module _ (book : List ℕ) (sound : Sound book) where
       let f = means_sound book sound in
       rw (f, le-leb 1 railway a, le-leb railway 9999 b) (ap Ok (balance_due book f railway))
 
-  pub no_railway : (railway : ℕ) → (Within 1 9999 railway → ⊥) → balance_answer book railway ≡ Err (refuse 11 0 0)
+  pub no_railway : (railway : ℕ) → (Within 1 9999 railway → ⊥) → balance_answer book railway ≡ Err (refuse OutsideLimits 0 0)
   unfolding balance_answer first_fault is_railway
   no_railway railway outside =
       let f = refuted (leb 1 railway && leb railway 9999) (λ e. outside (in_range 1 railway 9999 e)) in
@@ -65,7 +66,7 @@ module _ (book : List ℕ) (sound : Sound book) where
   unfolding entry_answer first_fault
   sale_at i l = rw (means_sound book sound, entries_length book, lt-ltb i (count_of book) l) (ap (λ e. Ok (booking_at i e)) (entry_is book i l))
 
-  pub no_sale_at : (i : ℕ) → count_of book ≤ i → entry_answer book i ≡ Err (refuse 25 0 0)
+  pub no_sale_at : (i : ℕ) → count_of book ≤ i → entry_answer book i ≡ Err (refuse SaleUnknown 0 0)
   unfolding entry_answer first_fault
   no_sale_at i l = rw (means_sound book sound, entries_length book, le-ltb i (count_of book) l)
 
@@ -81,13 +82,13 @@ module _ (book : List ℕ) (sound : Sound book) (n : Number) where
   found_sound = is_sound book (means_sound book sound)
 
   -- A number outside its limits,
-  pub sale_without_number : is_number n ≡ false → (bundle : List ℕ) (q : Question) → sale_answer book t u bundle q ≡ Err (refuse 22 0 0)
+  pub sale_without_number : is_number n ≡ false → (bundle : List ℕ) (q : Question) → sale_answer book t u bundle q ≡ Err (refuse NumberOutside 0 0)
   sale_without_number e bundle q = sale_no_number book t u bundle q (means_sound book sound) e
 
-  pub cancel_without_number : is_number n ≡ false → cancel_answer book t u ≡ Err (refuse 22 0 0)
+  pub cancel_without_number : is_number n ≡ false → cancel_answer book t u ≡ Err (refuse NumberOutside 0 0)
   cancel_without_number e = cancel_refused book t u (looked_no_number book t u (means_sound book sound) e)
 
-  pub find_without_number : is_number n ≡ false → find_answer book t u ≡ Err (refuse 22 0 0)
+  pub find_without_number : is_number n ≡ false → find_answer book t u ≡ Err (refuse NumberOutside 0 0)
   find_without_number e = find_refused book t u (looked_no_number book t u (means_sound book sound) e)
 
   module _ (number : is_number n ≡ true) where
@@ -121,7 +122,7 @@ module _ (book : List ℕ) (sound : Sound book) (n : Number) where
           sent_again bundle q ∙ again_same entry i q (ap (λ ws. same ws (question_words q)) (sym asked_words) ∙ same_words (question_of entry.asked) q e)
 
       pub other_sale : (bundle : List ℕ) (q : Question) → (SameQuestion (question_of entry.asked) q → ⊥)
-          → sale_answer book t u bundle q ≡ Err (refuse 23 i 0)
+          → sale_answer book t u bundle q ≡ Err (refuse NumberTaken i 0)
       other_sale bundle q other =
           let few = few_legs entry.asked (sound_entry entry well).asked_well in
           sent_again bundle q ∙ again_other entry i q (ap (λ ws. same ws (question_words q)) (sym asked_words) ∙ other_words (question_of entry.asked) q few other)
@@ -145,14 +146,14 @@ module _ (book : List ℕ) (sound : Sound book) (n : Number) where
               let k = held_here t u (entries book) (rw (entries_length book) h) in
               absurd (nowhere (place book t u) h (has_number_lem t u (entry_at book (place book t u)) (rw (entry_is book (place book t u) h) at k)))
 
-      pub unknown_cancel : cancel_answer book t u ≡ Err (refuse 25 0 0)
+      pub unknown_cancel : cancel_answer book t u ≡ Err (refuse SaleUnknown 0 0)
       unknown_cancel = cancel_refused book t u (looked_unknown book t u (means_sound book sound) number absent)
 
-      pub unknown_find : find_answer book t u ≡ Err (refuse 25 0 0)
+      pub unknown_find : find_answer book t u ≡ Err (refuse SaleUnknown 0 0)
       unknown_find = find_refused book t u (looked_unknown book t u (means_sound book sound) number absent)
 
       module _ (bundle : List ℕ) (q : Question) where
-        pub sale_when_full : 256 ≤ count_of book → sale_answer book t u bundle q ≡ Err (refuse 24 0 0)
+        pub sale_when_full : 256 ≤ count_of book → sale_answer book t u bundle q ≡ Err (refuse BookFull 0 0)
         sale_when_full f = sale_full book t u bundle q (means_sound book sound) number absent f
 
         -- and in one with room: booked with the parts of its fare, or refused as its fare is.

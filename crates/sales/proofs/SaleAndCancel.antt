@@ -11,6 +11,7 @@ use lib.ListN.{length, get_or, drop, replicate, length-map}
 use lib.Seq.{drop_at}
 use borrow.Author.Tests.{le-leb, lt-leb, lt-ltb, le-ltb, ltb-false, ltb-true, leb-true, not-true, not-false}
 use Rattle.std.specs.Prelude.{is_ok}
+use Rattle.common.specs.declared.reasons.Reason.TheVariants.{OutsideLimits, CardTwice, NumberOutside, NumberTaken, BookFull, SaleUnknown}
 use Rattle.common.specs.Lists.{every, any, same}
 use Rattle.common.specs.Checks.{Finding, clean, fault, Check, check, first_fault}
 use Rattle.common.proofs.Tests.{side, never, both_true}
@@ -72,7 +73,7 @@ priced_is b q = clean_price (first_fault (fare_checks b q)) (parts_of (records_o
 
 -- A SALE BOOKS exactly if the history says so
 booked_by_lem : (L P D F : Bool) (i : ℕ) (cs : List Check)
-    → (is_clean (first_fault (check (not L) 22 0 0 ∷ check (P && not D) 23 i 0 ∷ cond P [] (check F 24 0 0 ∷ cs))) && not P)
+    → (is_clean (first_fault (check (not L) NumberOutside 0 0 ∷ check (P && not D) NumberTaken i 0 ∷ cond P [] (check F BookFull 0 0 ∷ cs))) && not P)
     ≡ (L && (not P && (not F && is_clean (first_fault cs))))
 unfolding first_fault
 booked_by_lem true true true F i cs = refl
@@ -103,8 +104,8 @@ module _ (b : List ℕ) (q : Question) (c : first_fault (fare_checks b q) ≡ cl
   passed : (not (in_limits q) ≡ false) × (not (cards_differ (card_slots q)) ≡ false)
   unfolding fare_checks price_checks
   passed =
-      let l = one_clean (not (in_limits q)) 11 0 0 _ (append_clean (checks b) (price_checks (records_of b) q) c).1 in
-      (l.0, (one_clean (not (cards_differ (card_slots q))) 17 0 0 _ l.1).0)
+      let l = one_clean (not (in_limits q)) OutsideLimits 0 0 _ (append_clean (checks b) (price_checks (records_of b) q) c).1 in
+      (l.0, (one_clean (not (cards_differ (card_slots q))) CardTwice 0 0 _ l.1).0)
 
   pub priced_in_limits : in_limits q ≡ true
   priced_in_limits = not-false (in_limits q) passed.0
@@ -219,7 +220,7 @@ module _ (w : List ℕ) (s : IsSound w) (t u : ℕ) where
   abbrev After : List ℕ → Type 0
   After x = (entries x ≡ map (cancelling t u) es) × IsSound x
 
-  cancelled_by : (L P : Bool) → is_clean (first_fault (check (not L) 22 0 0 ∷ check (not P) 25 0 0 ∷ [])) ≡ (L && P)
+  cancelled_by : (L P : Bool) → is_clean (first_fault (check (not L) NumberOutside 0 0 ∷ check (not P) SaleUnknown 0 0 ∷ [])) ≡ (L && P)
   unfolding first_fault
   cancelled_by true true = refl
   cancelled_by true false = refl

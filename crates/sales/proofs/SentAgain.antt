@@ -11,6 +11,7 @@ use lib.ListN.{length, get_or, length-append, length-map, get_or-append}
 use lib.Seq.{get_or_at}
 use borrow.Author.Tests.{eq-eqb}
 use Rattle.std.specs.Prelude.{Ok, Err}
+use Rattle.common.specs.declared.reasons.Reason.TheVariants.{NumberTaken}
 use Rattle.common.specs.Lists.{same}
 use Rattle.common.specs.Checks.{refuse}
 use Rattle.common.proofs.Lists.{is_same}
@@ -191,11 +192,11 @@ module _ (first : List Op) (n : Number) (b : List ℕ) (q : Question) (more : Li
 
     -- refused by 23 if it is another, at its entry: behind as many as were booked before it,
     pub refused_other : (b' : List ℕ) (q' : Question) → (SameQuestion q q' → ⊥)
-        → sale_answer now n.till n.sequence b' q' ≡ Err (refuse 23 (length (booked_by [] first)) 0)
+        → sale_answer now n.till n.sequence b' q' ≡ Err (refuse NumberTaken (length (booked_by [] first)) 0)
     refused_other b' q' h =
         answered b' q'
         ∙ (again_other (later entry more) i q' (ap (λ x. same x (question_words q')) (asked_is (cancelled_in n more)) ∙ other_words q q' few_legs h)
-        ∙ ap (λ k. Err (refuse 23 k 0)) behind_all)
+        ∙ ap (λ k. Err (refuse NumberTaken k 0)) behind_all)
 
     -- and nothing changes
     pub nothing_changes : (b' : List ℕ) (q' : Question) → sale_words now n.till n.sequence b' q' ≡ now

@@ -8,6 +8,7 @@ use native.Mathlib.Omega.{arith}
 use lib.ListN.{length, get_or, length-map}
 use borrow.Author.Tests.{eq-eqb}
 use Rattle.std.specs.Prelude.{Ok, Err}
+use Rattle.common.specs.declared.reasons.Reason.TheVariants.{BookFull, SaleUnknown}
 use Rattle.common.specs.Checks.{refuse}
 use Rattle.common.specs.declared.Refusal.{Refusal}
 use Rattle.common.proofs.Sums.{map_at}
@@ -51,7 +52,7 @@ module _ (ops : List Op) where
       ∙ (sym (map_at sale_number_of (entries book) k no_number no_entry (rw (entries_length book) m)) ∙ ap (λ ns. get_or ns k no_number) (booked_numbers ops)) in
       (booking_at k (entry_at book k), sale_at book always_meant k m, ap (λ (x : Number). x.till) e, ap (λ (x : Number). x.sequence) e)
 
-  pub nothing_behind : (k : ℕ) → length (booked_by [] ops) ≤ k → entry_answer book k ≡ Err (refuse 25 0 0)
+  pub nothing_behind : (k : ℕ) → length (booked_by [] ops) ≤ k → entry_answer book k ≡ Err (refuse SaleUnknown 0 0)
   nothing_behind k l = no_sale_at book always_meant k (omega (arith, booked_count))
 
   module _ (n : Number) (number : is_number n ≡ true) (new : is_in n (booked_by [] ops) ≡ false) where
@@ -63,14 +64,14 @@ module _ (ops : List Op) where
         never (sym (present_is book n ∙ ap (is_in n) (booked_numbers ops)) ∙ p) new
 
     -- A cancellation, and a find; a sale after 256 bookings,
-    pub unknown_is_told : cancel_answer book n.till n.sequence ≡ Err (refuse 25 0 0)
+    pub unknown_is_told : cancel_answer book n.till n.sequence ≡ Err (refuse SaleUnknown 0 0)
     unknown_is_told = unknown_cancel book always_meant n number nowhere
 
-    pub unknown_is_not_found : find_answer book n.till n.sequence ≡ Err (refuse 25 0 0)
+    pub unknown_is_not_found : find_answer book n.till n.sequence ≡ Err (refuse SaleUnknown 0 0)
     unknown_is_not_found = unknown_find book always_meant n number nowhere
 
     module _ (bundle : List ℕ) (q : Question) where
-      pub full_is_told : 256 ≤ length (booked_by [] ops) → sale_answer book n.till n.sequence bundle q ≡ Err (refuse 24 0 0)
+      pub full_is_told : 256 ≤ length (booked_by [] ops) → sale_answer book n.till n.sequence bundle q ≡ Err (refuse BookFull 0 0)
       full_is_told f = sale_when_full book always_meant n number nowhere bundle q (omega (arith, booked_count))
 
       -- and before: booked with the parts of its fare, or refused as its fare is.

@@ -1,6 +1,7 @@
 -- What a balance of a railway and the total answer (document 01, 'The sales book').
 -- Assumes nothing.
 use Rattle.std.specs.Prelude.{ℕ, Bool, not, List, [], ◌∷◌, Result}
+use Rattle.common.specs.declared.reasons.Reason.TheVariants.{OutsideLimits, BookUnsound}
 use Rattle.common.specs.declared.Refusal.{Refusal}
 use Rattle.common.specs.Checks.{Check, check, unless, first_fault}
 use Rattle.layout.specs.Company.{is_railway}
@@ -10,13 +11,13 @@ use Rattle.book.specs.Sound.{sound_words}
 
 -- "Balance of one railway (21, then 11), and total of all (21)", by whether the book is sound
 abbrev pub balance_checks_by : Bool → ℕ → List Check
-balance_checks_by sound railway = check (not sound) 21 0 0 ∷ check (not (is_railway railway)) 11 0 0 ∷ []
+balance_checks_by sound railway = check (not sound) BookUnsound 0 0 ∷ check (not (is_railway railway)) OutsideLimits 0 0 ∷ []
 
 abbrev pub balance_checks : List ℕ → ℕ → List Check
 balance_checks book railway = balance_checks_by (sound_words book) railway
 
 abbrev pub total_checks_by : Bool → List Check
-total_checks_by sound = check (not sound) 21 0 0 ∷ []
+total_checks_by sound = check (not sound) BookUnsound 0 0 ∷ []
 
 abbrev pub total_checks : List ℕ → List Check
 total_checks book = total_checks_by (sound_words book)

@@ -2,6 +2,7 @@
 -- sales by them, and a till asks its earlier books.
 -- Assumes nothing.
 use Rattle.std.specs.Prelude.{ℕ, ◌≤◌, ◌≡◌, Bool, cond, not, List, [], ◌∷◌, ltb, length, get_or, Result, Ok}
+use Rattle.common.specs.declared.reasons.Reason.TheVariants.{BookUnsound, SaleUnknown}
 use Rattle.common.specs.Checks.{Check, check, unless, first_fault}
 use Rattle.common.specs.declared.Refusal.{Refusal}
 use Rattle.fares.specs.Question.{no_leg}
@@ -20,14 +21,14 @@ booking_at i e =
 
 -- COUNT: 21
 abbrev pub count_checks : List ℕ → List Check
-count_checks book = check (not (sound_words book)) 21 0 0 ∷ []
+count_checks book = check (not (sound_words book)) BookUnsound 0 0 ∷ []
 
 unfoldable pub count_answer : List ℕ → Result ℕ Refusal
 count_answer book = unless (first_fault (count_checks book)) (length (entries book))
 
 -- ENTRY i, in the order of booking: 21, then 25 from the count on
 abbrev pub entry_checks : List ℕ → ℕ → List Check
-entry_checks book i = check (not (sound_words book)) 21 0 0 ∷ check (not (ltb i (length (entries book)))) 25 0 0 ∷ []
+entry_checks book i = check (not (sound_words book)) BookUnsound 0 0 ∷ check (not (ltb i (length (entries book)))) SaleUnknown 0 0 ∷ []
 
 unfoldable pub entry_answer : List ℕ → ℕ → Result Booking Refusal
 entry_answer book i = unless (first_fault (entry_checks book i)) (booking_at i (get_or (entries book) i no_entry))

@@ -1,6 +1,7 @@
 -- What a sale and a cancel answer, and what they leave in the book (document 01, 'The sales book', numbers 21 to 25).
 -- Assumes nothing.
 use Rattle.std.specs.Prelude.{ℕ, Bool, true, false, cond, not, ◌&&◌, List, [], ◌∷◌, eqb, leb, ltb, length, get_or, Result}
+use Rattle.common.specs.declared.reasons.Reason.TheVariants.{BookUnsound, NumberOutside, NumberTaken, BookFull, SaleUnknown}
 use Rattle.common.specs.Lists.{same}
 use Rattle.common.specs.Checks.{Finding, clean, fault, Check, check, unless, first_fault}
 use Rattle.common.specs.declared.Refusal.{Refusal}
@@ -41,10 +42,10 @@ module _ (book : List ℕ) (till sequence : ℕ) where
   -- By whether the book is sound, the question's words, and the checks of its fare
   abbrev pub sale_checks_by : Bool → List ℕ → List Check → List Check
   sale_checks_by sound asked fare =
-      check (not sound) 21 0 0 ∷
-      check (not (number_in_limits till sequence)) 22 0 0 ∷
-      check (is_present && not (same present.asked asked)) 23 place 0 ∷
-      cond is_present [] (check (leb capacity (length (entries book))) 24 0 0 ∷ fare)
+      check (not sound) BookUnsound 0 0 ∷
+      check (not (number_in_limits till sequence)) NumberOutside 0 0 ∷
+      check (is_present && not (same present.asked asked)) NumberTaken place 0 ∷
+      cond is_present [] (check (leb capacity (length (entries book))) BookFull 0 0 ∷ fare)
 
   unfoldable pub sale_checks : List ℕ → Question → List Check
   sale_checks bundle q = sale_checks_by (sound_words book) (question_words q) (fare_checks bundle q)
@@ -71,9 +72,9 @@ module _ (book : List ℕ) (till sequence : ℕ) where
   -- CANCEL. "21, 22, 25", and then the receipt
   abbrev pub cancel_checks_by : Bool → List Check
   cancel_checks_by sound =
-      check (not sound) 21 0 0 ∷
-      check (not (number_in_limits till sequence)) 22 0 0 ∷
-      check (not is_present) 25 0 0 ∷
+      check (not sound) BookUnsound 0 0 ∷
+      check (not (number_in_limits till sequence)) NumberOutside 0 0 ∷
+      check (not is_present) SaleUnknown 0 0 ∷
       []
 
   unfoldable pub cancel_checks : List Check

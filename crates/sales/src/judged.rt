@@ -6,7 +6,7 @@ ghost use Rattle.sales.specs.Helpers.{again_answer, first_answer};
 
 use super::reading::look_up;
 use super::{Outcome, Receipt};
-use common::Refusal;
+use common::{Reason, Refusal};
 use fares::Question;
 
 pub fn judge_sale(
@@ -19,10 +19,10 @@ pub fn judge_sale(
     ensures { result ≡ sale_answer book.now till sequence bundle.now q }
 {
     if !book::sound::is_sound(book) {
-        return Err(common::refuse(21, 0, 0));
+        return Err(common::refuse(Reason::BookUnsound, 0, 0));
     }
     if !book::sound::is_number(till, sequence) {
-        return Err(common::refuse(22, 0, 0));
+        return Err(common::refuse(Reason::NumberOutside, 0, 0));
     }
     let count = book::entries::count(book);
     let place = book::entries::find(book, till, sequence as u32);
@@ -30,7 +30,7 @@ pub fn judge_sale(
         return sold_again(book, place, q);
     }
     if book::CAPACITY <= count {
-        return Err(common::refuse(24, 0, 0));
+        return Err(common::refuse(Reason::BookFull, 0, 0));
     }
     sold_first(bundle, q)
 }
@@ -41,7 +41,7 @@ fn sold_again(book: &[u32], place: usize, q: Question) -> Result<Receipt, Refusa
     ensures { result ≡ again_answer (entry_at book.now place) place q }
 {
     if !book::entries::asks(book, place, q) {
-        return Err(common::refuse(23, place, 0));
+        return Err(common::refuse(Reason::NumberTaken, place, 0));
     }
     Ok(Receipt {
         outcome: Outcome::AlreadyBooked(book::entries::status_of(book, place)),

@@ -8,7 +8,7 @@ ghost use Rattle.sales.specs.Balances.{balance_answer, total_answer};
 mod judged;
 pub mod reading;
 
-use common::Refusal;
+use common::{Reason, Refusal};
 
 // What came of a sale or a cancellation that is not refused; `AlreadyBooked` has the status of the entry, 1 if it is cancelled.
 #[derive(Clone, Copy)]
@@ -73,10 +73,10 @@ pub fn balance(book: &[u32], railway: u32) -> Result<u64, Refusal>
     ensures { result ≡ balance_answer book.now railway }
 {
     if !book::sound::is_sound(book) {
-        return Err(common::refuse(21, 0, 0));
+        return Err(common::refuse(Reason::BookUnsound, 0, 0));
     }
     if !layout::company::is_railway(railway) {
-        return Err(common::refuse(11, 0, 0));
+        return Err(common::refuse(Reason::OutsideLimits, 0, 0));
     }
     Ok(book::sums::owed(book, railway))
 }
@@ -86,7 +86,7 @@ pub fn total(book: &[u32]) -> Result<u64, Refusal>
     ensures { result ≡ total_answer book.now }
 {
     if !book::sound::is_sound(book) {
-        return Err(common::refuse(21, 0, 0));
+        return Err(common::refuse(Reason::BookUnsound, 0, 0));
     }
     Ok(book::sums::owed(book, book::sums::ALL))
 }

@@ -5,21 +5,21 @@ ghost use Rattle.sales.specs.Reading.{booking_at, count_answer, entry_answer, fi
 ghost use Rattle.sales.specs.Helpers.{looked_up};
 
 use super::Booking;
-use common::Refusal;
+use common::{Reason, Refusal};
 
 // Where the sale of a number stands.
 pub fn look_up(book: &[u32], till: u32, sequence: u64) -> Result<usize, Refusal>
     ensures { result ≡ looked_up book.now till sequence }
 {
     if !book::sound::is_sound(book) {
-        return Err(common::refuse(21, 0, 0));
+        return Err(common::refuse(Reason::BookUnsound, 0, 0));
     }
     if !book::sound::is_number(till, sequence) {
-        return Err(common::refuse(22, 0, 0));
+        return Err(common::refuse(Reason::NumberOutside, 0, 0));
     }
     let place = book::entries::find(book, till, sequence as u32);
     if book::entries::count(book) <= place {
-        return Err(common::refuse(25, 0, 0));
+        return Err(common::refuse(Reason::SaleUnknown, 0, 0));
     }
     Ok(place)
 }
@@ -43,7 +43,7 @@ pub fn count(book: &[u32]) -> Result<usize, Refusal>
     ensures { result ≡ count_answer book.now }
 {
     if !book::sound::is_sound(book) {
-        return Err(common::refuse(21, 0, 0));
+        return Err(common::refuse(Reason::BookUnsound, 0, 0));
     }
     Ok(book::entries::count(book))
 }
@@ -53,10 +53,10 @@ pub fn entry(book: &[u32], entry: usize) -> Result<Booking, Refusal>
     ensures { result ≡ entry_answer book.now entry }
 {
     if !book::sound::is_sound(book) {
-        return Err(common::refuse(21, 0, 0));
+        return Err(common::refuse(Reason::BookUnsound, 0, 0));
     }
     if book::entries::count(book) <= entry {
-        return Err(common::refuse(25, 0, 0));
+        return Err(common::refuse(Reason::SaleUnknown, 0, 0));
     }
     Ok(booking_at(book, entry))
 }

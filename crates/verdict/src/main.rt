@@ -4,7 +4,7 @@
 ghost use Rattle.std.specs.Prelude.{◌≡◌};
 ghost use Rattle.verdict.specs.Program.{program_verdict};
 
-use common::Refusal;
+use common::{Reason, Refusal};
 use names::words;
 use std::io;
 
@@ -15,7 +15,7 @@ fn judge(input: &[u8]) -> Result<usize, Refusal>
     ensures { result ≡ program_verdict input.now }
 {
     if LIMIT < input.len() {
-        return Err(common::refuse(1, 0, 0));
+        return Err(common::refuse(Reason::BundleTooLong, 0, 0));
     }
     offers::verdict(input)
 }

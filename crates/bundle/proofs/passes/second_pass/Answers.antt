@@ -8,6 +8,7 @@ use mathlib.Core.List.{List}
 use native.Mathlib.Omega.{arith}
 use lib.ListN.{get_or}
 use borrow.Author.Rules.{rules}
+use Rattle.common.specs.declared.reasons.Reason.TheVariants.{LinkMissing}
 use Rattle.common.specs.Checks.{refuse}
 use Rattle.common.specs.Least.{least}
 use Rattle.common.proofs.Checks.{as_found}
@@ -185,4 +186,4 @@ returns-then-k-lt-LINKS c =
     rw e at c.loop-j.invariant.2 in
     let same_transferor : other_transferor (records_of (bundle-of)) (lent) ≡ false = transferor ∙ c.if-not-same_bytes.false-raw in
     let q = link_fault _ c.records.i (lent) found.cons (same_transferor) (omega (arith, apart)) (rw c.missing_link-k.ensures.0 at c.if-k-lt-LINKS.true) in
-    as_found _ (c.records.invariant.1 ∙ q) (c.refuse-then-k-lt-LINKS.ensures ∙ ap (λ (l : Link). refuse 7 c.records.i l.detail) (c.link_at-link.ensures ∙ ap (λ j. get_or link_rows j no_link) c.missing_link-k.ensures.0))
+    as_found _ (c.records.invariant.1 ∙ q) (c.refuse-then-k-lt-LINKS.ensures ∙ ap (λ (l : Link). refuse LinkMissing c.records.i l.detail) (c.link_at-link.ensures ∙ ap (λ j. get_or link_rows j no_link) c.missing_link-k.ensures.0))

@@ -10,4 +10,4 @@ returns-in-Ok c = rw c.in-Ok.is
 
 pub returns-in-Err : goal.returns-in-Err
 unfolding tells_values quote_reply
-returns-in-Err c = rw c.in-Err.is
+returns-in-Err c = rw (c.in-Err.is, c.from.ensures)

@@ -10,4 +10,4 @@ returns-in-Ok c = rw (c.in-Ok.is, c.outcome_values-outcome.ensures c.in-Ok.recei
 
 pub returns-in-Err : goal.returns-in-Err
 unfolding tells_values receipt_reply
-returns-in-Err c = rw c.in-Err.is
+returns-in-Err c = rw (c.in-Err.is, c.from.ensures)
