@@ -1,9 +1,9 @@
 // Searches, lists and refusals that every later crate cites. But for the reasons of a refusal nothing here knows of railways.
 #![tactic(auto)]
 
-ghost use Rattle.std.specs.Prelude.{◌≡◌, ◌+◌, ◌-◌, ◌<◌, ◌≤◌, ◌&&◌, length, take, drop, nat_le, Some};
+ghost use Rattle.std.specs.Prelude.{◌≡◌, ◌+◌, ◌-◌, ◌<◌, ◌≤◌, ◌&&◌, length, take, drop, Some};
 ghost use Rattle.common.specs.Lists.{same, byte_at};
-ghost use Rattle.common.specs.Digits.{digit_0, is_digit, number_of, value_of, is_within};
+ghost use Rattle.common.specs.Digits.{digit_of, number_of, is_within};
 ghost use Rattle.common.specs.Ranks.{rank_of, rank_limit};
 ghost use Rattle.common.specs.Checks.{refuse};
 ghost use Rattle.common.specs.RefusalText.{refusal_text};
@@ -14,13 +14,6 @@ mod reasons;
 
 pub use reasons::Reason;
 use std::fmt;
-
-// What a few bytes say as a decimal number.
-#[derive(Clone, Copy)]
-pub enum Num {
-    Is(u32),
-    Not,
-}
 
 // Why work is turned away, with its place and its detail.
 #[derive(Clone, Copy)]
@@ -152,53 +145,33 @@ pub fn rank(s: &[u8]) -> u64
     v
 }
 
-// What a byte says as a digit, above 9 where it is none: below the digits the difference wraps, so that one comparison tells.
-fn digit(b: u8) -> u32
-    ensures { (nat_le result 9 ≡ is_digit b) × (result ≤ 9 → result ≡ b - digit_0) }
+// What a byte says as a digit: below the digits the difference wraps, so that one comparison tells.
+fn digit(b: u8) -> Option<u32>
+    ensures { result ≡ digit_of b }
 {
-    std::num::wrapping_sub_u32(b as u32, 48)
+    let d = (b as u32).wrapping_sub(48);
+    if 9 < d {
+        return None;
+    }
+    Some(d)
 }
 
 // The number that one to nine digits say.
-pub fn number(s: &[u8]) -> Num
+pub fn number(s: &[u8]) -> Option<u32>
     ensures { result ≡ number_of s.now }
 {
     if 9 < s.len() {
-        return Num::Not;
+        return None;
     }
     let mut v: u32 = 0;
-    let mut i = 0;
-    while i < s.len() {
-        let d = digit(s[i]);
-        if 9 < d {
-            return Num::Not;
-        }
-        v = v * 10 + d;
-        i += 1;
+    for b in s {
+        v = v * 10 + digit(*b)?;
     }
-    Num::Is(v)
+    Some(v)
 }
 
-// The number, 0 where there is none.
-pub fn value(n: Num) -> u32
-    ensures { result ≡ value_of n }
-{
-    match n {
-        Num::Is(v) => v,
-        Num::Not => 0,
-    }
-}
-
-pub fn within(n: Num, least: u32, most: u32) -> bool
+pub fn within(n: Option<u32>, least: u32, most: u32) -> bool
     ensures { result ≡ is_within least most n }
 {
-    match n {
-        Num::Is(v) => {
-            if v < least {
-                return false;
-            }
-            v <= most
-        }
-        Num::Not => false,
-    }
+    n.is_some_and(|v| least <= v && v <= most)
 }

@@ -12,7 +12,7 @@ use lib.ListN.{length}
 use borrow.Author.Tests.{eqb-true, ne_eqb}
 use Rattle.common.specs.Lists.{every, any}
 use Rattle.common.specs.Digits.{digits_after, number_of, value_of}
-use Rattle.common.specs.declared.Num.TheVariants.{Not}
+use Rattle.std.specs.Prelude.{None}
 use Rattle.common.proofs.Tests.{both_true}
 use Rattle.common.proofs.Digits.{within_value}
 use Rattle.layout.specs.Bytes.{byte_blank, byte_plus, byte_minus, byte_0, byte_N, is_blank}
@@ -65,7 +65,7 @@ blank_value (b ∷ bs) e =
     let x : b ≡ byte_blank = eqb-true b byte_blank (both_true (is_blank b) (every is_blank bs) e).0 in
     rw x (none (ltb 9 (length (byte_blank ∷ bs))))
   where
-    none : (c : Bool) → value_of (cond c Not Not) ≡ 0
+    none : (c : Bool) → value_of (cond c None None) ≡ 0
     none true = refl
     none false = refl
 

@@ -11,8 +11,7 @@ use lib.ListN.{length, get_or}
 use borrow.Author.Tests.{eqb-true, eqb-false, eq-eqb, ne_eqb, le-leb, leb-true, not-true}
 use Rattle.common.specs.Lists.{every}
 use Rattle.common.specs.Digits.{number_of, digits_after, value_of, is_within}
-use Rattle.common.specs.declared.Num.{Num}
-use Rattle.common.specs.declared.Num.TheVariants.{Is, Not}
+use Rattle.std.specs.Prelude.{Option, Some, None}
 use Rattle.common.proofs.Tests.{never, both_true, in_range, side, refuted}
 use Rattle.common.proofs.Lists.{every_at, every_by, same_is, is_same}
 use Rattle.common.proofs.Digits.{digits_same}
@@ -49,16 +48,16 @@ pub text_means : (s : List ℕ) → every is_text s means Text s
 text_means = each_byte is_text _ (λ b. either _ _ (between 32 b 126) (between 160 b 255))
 
 -- NUMBERS
-is_inj : {v n : ℕ} → Is v ≡ Is n → v ≡ n
+is_inj : {v n : ℕ} → Some v ≡ Some n → v ≡ n
 is_inj e = cc
 
-no_number_lem : {A : Type 0} {n : ℕ} → Not ≡ Is n → A
+no_number_lem : {A : Type 0} {n : ℕ} → None ≡ Some n → A
 no_number_lem e = let z : ◌≡◌ {A = ℕ} 0 1 = cc in absurd (omega arith)
 
-pub within_means : (lowest highest : ℕ) (m : Num) → is_within lowest highest m means ((n : ℕ) × (m ≡ Is n) × Within lowest highest n)
-within_means lowest highest (Is v) =
+pub within_means : (lowest highest : ℕ) (m : Option ℕ) → is_within lowest highest m means ((n : ℕ) × (m ≡ Some n) × Within lowest highest n)
+within_means lowest highest (Some v) =
     (λ e. (v, refl, in_range lowest v highest e), λ w. rw (is_inj w.1) ((between lowest w.0 highest).1 w.2))
-within_means lowest highest Not = (λ e. never e refl, λ w. no_number_lem w.1)
+within_means lowest highest None = (λ e. never e refl, λ w. no_number_lem w.1)
 
 pub both : (a b : Bool) → a ≡ true → b ≡ true → (a && b) ≡ true
 both a b e f = rw (e, f)
@@ -67,11 +66,11 @@ both a b e f = rw (e, f)
 zeros : List ℕ
 zeros = byte_0 ∷ byte_0 ∷ byte_0 ∷ byte_0 ∷ []
 
-says_0 : (s : List ℕ) (n : ℕ) → length s ≡ 4 → number_of s ≡ Is n → n < 1 → is_all_railways s ≡ true
+says_0 : (s : List ℕ) (n : ℕ) → length s ≡ 4 → number_of s ≡ Some n → n < 1 → is_all_railways s ≡ true
 unfolding is_all_railways number_of digits_after zeros
-says_0 s n l e h = let z : n ≡ 0 = omega arith in is_same s zeros (digits_same s zeros 0 l (e ∙ ap Is z) refl)
+says_0 s n l e h = let z : n ≡ 0 = omega arith in is_same s zeros (digits_same s zeros 0 l (e ∙ ap Some z) refl)
 
-not_0 : (s : List ℕ) (n : ℕ) → number_of s ≡ Is n → 1 ≤ n → is_all_railways s ≡ false
+not_0 : (s : List ℕ) (n : ℕ) → number_of s ≡ Some n → 1 ≤ n → is_all_railways s ≡ false
 unfolding is_all_railways number_of digits_after zeros
 not_0 s n e h = refuted (is_all_railways s) (λ a. let z : 0 ≡ n = is_inj (ap number_of (sym (same_is s zeros a)) ∙ e) in omega arith)
 
@@ -86,16 +85,16 @@ transferor_means s l = (
 )
 
 -- MOST PERSONS, held to the fewest
-pub most_number : (fewest : ℕ) (m : Num) → (is_within 1 99 m && (eqb (value_of m) 99 || leb fewest (value_of m)))
-    means ((n : ℕ) × (m ≡ Is n) × (Within 1 99 n × (n ≤ 98 → fewest ≤ n)))
-most_number fewest (Is v) = (
+pub most_number : (fewest : ℕ) (m : Option ℕ) → (is_within 1 99 m && (eqb (value_of m) 99 || leb fewest (value_of m)))
+    means ((n : ℕ) × (m ≡ Some n) × (Within 1 99 n × (n ≤ 98 → fewest ≤ n)))
+most_number fewest (Some v) = (
   λ e. let b = both_true (leb 1 v && leb v 99) _ e in
       (v, refl, (in_range 1 v 99 b.0, λ h. leb-true fewest v (rw (ne_eqb v 99 (λ z. omega arith)) at b.1))),
   λ w. rw (is_inj w.1) (both _ _ ((between 1 w.0 99).1 w.2.0) (⊎_elim
       (λ h. rw (ne_eqb w.0 99 (λ z. omega arith)) (le-leb _ _ (w.2.1 (omega arith))))
       (λ h. rw (eq-eqb w.0 99 (omega (arith, w.2.0.1)))) (side w.0 99))),
 )
-most_number fewest Not = (λ e. never e refl, λ w. no_number_lem w.1)
+most_number fewest None = (λ e. never e refl, λ w. no_number_lem w.1)
 
 -- THE FACTOR, held to the rounding
 pub factor_means : (mode : ℕ) (s : List ℕ) → factor_rule mode s means Number (λ n. (n ≤ 999) × ((mode ≡ byte_N → ⊥) → 1 ≤ n)) s
@@ -113,12 +112,12 @@ factor_means mode s = go (eqb mode byte_N) refl
     )
 
 -- DAYS, and the last held to the first
-pub day_means : (m : Num) → is_day (value_of m) means ((n : ℕ) × (m ≡ Is n) × RealDay n)
+pub day_means : (m : Option ℕ) → is_day (value_of m) means ((n : ℕ) × (m ≡ Some n) × RealDay n)
 unfolding is_day
-day_means (Is v) = (λ e. (v, refl, a_day_is_real v e), λ w. rw (is_inj w.1) (real_is_a_day _ w.2))
-day_means Not = (λ e. never e refl, λ w. no_number_lem w.1)
+day_means (Some v) = (λ e. (v, refl, a_day_is_real v e), λ w. rw (is_inj w.1) (real_is_a_day _ w.2))
+day_means None = (λ e. never e refl, λ w. no_number_lem w.1)
 
-pub last_means : (first : ℕ) (m : Num) → (is_day (value_of m) && leb first (value_of m)) means ((n : ℕ) × (m ≡ Is n) × (RealDay n × (first ≤ n)))
+pub last_means : (first : ℕ) (m : Option ℕ) → (is_day (value_of m) && leb first (value_of m)) means ((n : ℕ) × (m ≡ Some n) × (RealDay n × (first ≤ n)))
 last_means first m = (
   λ e. let b = both_true (is_day (value_of m)) _ e in
       let w = (day_means m).0 b.0 in

@@ -10,7 +10,7 @@ use lib.Dec.{ltb}
 use lib.ListN.{length}
 use borrow.Author.Tests.{eqb-true, eq-eqb}
 use Rattle.common.specs.Digits.{number_of, digits_after, value_of}
-use Rattle.common.specs.declared.Num.TheVariants.{Not}
+use Rattle.std.specs.Prelude.{None}
 use Rattle.common.proofs.Tests.{either_way}
 use Rattle.common.proofs.Lists.{same_is, is_same}
 use Rattle.layout.specs.Bytes.{byte_blank, byte_Y}
@@ -33,7 +33,7 @@ is_flag_lem f w = ⊎_elim (λ e. rw e) (λ h. let k : 31 + (f - 31) ≡ f = ome
 blank_is_0 : (s : List ℕ) → Blank s → value_of (number_of s) ≡ 0
 unfolding number_of digits_after
 blank_is_0 [] b = refl
-blank_is_0 (x ∷ s) b = let e : x ≡ byte_blank = b 0 (omega arith) in rw e (ap value_of (either_way (ltb 9 (length (x ∷ s))) Not))
+blank_is_0 (x ∷ s) b = let e : x ≡ byte_blank = b 0 (omega arith) in rw e (ap value_of (either_way (ltb 9 (length (x ∷ s))) None))
 
 pub readings : (body : List ℕ) → Readings body
 unfolding number_in

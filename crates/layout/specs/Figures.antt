@@ -1,10 +1,9 @@
 -- The layout in figures: what source document 001 says of each table (Appendices C, H, I and O), the keys of document 01, the calendar's months, and the
 -- letters and digits of a field.
 -- Assumes nothing.
-use Rattle.std.specs.Prelude.{ℕ, ◌+◌, ◌≡◌, true, List, [], ◌∷◌, ◌++◌, map, ◌↔◌}
+use Rattle.std.specs.Prelude.{ℕ, ◌+◌, ◌≡◌, true, List, [], ◌∷◌, ◌++◌, map, ◌↔◌, Some}
 use Rattle.common.specs.Lists.{sum, up_to}
 use Rattle.common.specs.Digits.{number_of}
-use Rattle.common.specs.declared.Num.TheVariants.{Is}
 use Rattle.layout.specs.Bytes.{byte_blank, byte_plus, byte_minus, byte_0, byte_N, byte_Y}
 use Rattle.layout.specs.Layout.{CO, RE, AR, ME, table_at, length_of}
 use Rattle.layout.specs.Fields.{bytes_of, number_in, offer_of, railway_of, code_of, same_key, first_day, last_day, holds_day}
@@ -64,7 +63,7 @@ Says (period t first last) =
 Says (months year lengths) = months_of year ≡ lengths
 Says (years first count days) = sum (up_to (λ k. sum (months_of (first + k))) count) ≡ days
 Says (letter byte code) = byte ≡ code
-Says (digits bytes n) = number_of bytes ≡ Is n
+Says (digits bytes n) = number_of bytes ≡ Some n
 
 -- The fields 4 to 26 of CO are read as one text, field 4.
 abbrev pub figures : List Figure

@@ -1,9 +1,8 @@
 -- What each field may say, by meaning, in the words and the order of document 01, 'Values'.
 -- Assumes nothing.
-use Rattle.std.specs.Prelude.{ℕ, ◌+◌, ◌-◌, ◌≤◌, ◌<◌, ◌≡◌, List, [], ◌∷◌, ◌++◌, true, ◌⊎◌, ◌↔◌, length, get_or}
+use Rattle.std.specs.Prelude.{ℕ, ◌+◌, ◌-◌, ◌≤◌, ◌<◌, ◌≡◌, List, [], ◌∷◌, ◌++◌, true, ◌⊎◌, ◌↔◌, length, get_or, Some}
 use Rattle.common.specs.Lists.{up_to}
 use Rattle.common.specs.Digits.{number_of}
-use Rattle.common.specs.declared.Num.TheVariants.{Is}
 use Rattle.layout.specs.Bytes.{byte_blank, byte_plus, byte_minus, byte_0, byte_N, byte_Y}
 use Rattle.layout.specs.Company.{is_all_railways, is_railway}
 use Rattle.layout.specs.Layout.{CO, RE, AR, ME}
@@ -23,7 +22,7 @@ Text = Each (λ b. ((32 ≤ b) × (b ≤ 126)) ⊎ ((160 ≤ b) × (b ≤ 255)))
 
 -- "Numbers are decimal digits": they say n, and n is such a number
 abbrev pub Number : (ℕ → Type 0) → List ℕ → Type 0
-Number P s = (n : ℕ) × (number_of s ≡ Is n) × P n
+Number P s = (n : ℕ) × (number_of s ≡ Some n) × P n
 
 abbrev pub Within : ℕ → ℕ → ℕ → Type 0
 Within lowest highest n = (lowest ≤ n) × (n ≤ highest)
@@ -106,7 +105,7 @@ values =
 -- blanks mean 00", "six blanks mean 000000".
 pub record Readings (body : List ℕ) : Type 0 where
   pub flags : (f : ℕ) → (f ≡ 27) ⊎ Within 31 38 f → (is_yes CO f body ≡ true) ↔ (byte_of CO f body ≡ byte_Y)
-  pub digits : (t f n : ℕ) → number_of (bytes_of t f body) ≡ Is n → number_in t f body ≡ n
+  pub digits : (t f n : ℕ) → number_of (bytes_of t f body) ≡ Some n → number_in t f body ≡ n
   pub blanks : (t f : ℕ) → Blank (bytes_of t f body) → number_in t f body ≡ 0
 
 -- "railway 0000-9999 (0000 = all railways)"; a railway is asked for by a number 1-9999

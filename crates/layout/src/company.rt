@@ -31,7 +31,7 @@ pub fn is_transferor(s: &[u8]) -> bool
 pub fn company_of(s: &[u8]) -> u32
     ensures { result ≡ company_of s.now }
 {
-    common::value(common::number(s))
+    common::number(s).unwrap_or(0)
 }
 
 // Whether a railway may be asked for by a number.

@@ -18,7 +18,7 @@ pub fn field(body: &[u8], start: usize, length: usize) -> &[u8]
 fn number_at(body: &[u8], start: usize, length: usize) -> u32
     ensures { result ≡ value_of (number_of (field_at start length body.now)) }
 {
-    common::value(common::number(field(body, start, length)))
+    common::number(field(body, start, length)).unwrap_or(0)
 }
 
 // Field 1 of every table, and fields 2 and 3 of every table of offers.
@@ -118,9 +118,9 @@ fn day_at(body: &[u8], start: usize) -> u32
 {
     let s = field(body, start, 8);
     if s.len() != 8 {
-        return common::value(common::number(s));
+        return common::number(s).unwrap_or(0);
     }
-    common::value(common::number(&s[0..8]))
+    common::number(&s[0..8]).unwrap_or(0)
 }
 
 // The first and the last day of a record's period, 0 for no table: its last 18 bytes are the first day, the version and the last day.

@@ -105,11 +105,11 @@ pub fn most_persons<'a>(least: &'a [u8], s: &'a [u8]) -> bool
     if !common::within(n, 1, 99) {
         return false;
     }
-    let most = common::value(n);
+    let most = n.unwrap_or(0);
     if most == 99 {
         return true;
     }
-    common::value(common::number(least)) <= most
+    common::number(least).unwrap_or(0) <= most
 }
 
 pub fn rounding(b: u8) -> bool
@@ -137,16 +137,16 @@ pub fn factor(mode: u8, s: &[u8]) -> bool
 pub fn first_day(s: &[u8]) -> bool
     ensures { result ≡ Rattle.layout.specs.Rules.first_day_rule s.now }
 {
-    super::dates::is_day(common::value(common::number(s)))
+    super::dates::is_day(common::number(s).unwrap_or(0))
 }
 
 // The last day, not before the first.
 pub fn last_day<'a>(first: &'a [u8], s: &'a [u8]) -> bool
     ensures { result ≡ last_day_rule first.now s.now }
 {
-    let last = common::value(common::number(s));
+    let last = common::number(s).unwrap_or(0);
     if !super::dates::is_day(last) {
         return false;
     }
-    common::value(common::number(first)) <= last
+    common::number(first).unwrap_or(0) <= last
 }

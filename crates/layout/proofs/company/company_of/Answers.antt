@@ -5,4 +5,4 @@ use Rattle.layout.proofs.company.company_of.Goals as goal
 
 pub returns : goal.returns
 unfolding company_of
-returns c = rw (c.value.ensures, c.number.ensures)
+returns c = rw (c.unwrap_or.ensures, c.number.ensures)

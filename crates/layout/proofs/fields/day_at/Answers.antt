@@ -6,7 +6,7 @@ use lib.Seq.{take_all}
 use Rattle.layout.proofs.fields.day_at.Goals as goal
 
 pub returns-then-s-ne8 : goal.returns-then-s-ne8
-returns-then-s-ne8 c = c.value.ensures ∙ rw (c.number.ensures, c.field-s.ensures)
+returns-then-s-ne8 c = c.unwrap_or.ensures ∙ rw (c.number.ensures, c.field-s.ensures)
 
 pub returns : goal.returns
-returns c = c.value-2.ensures ∙ rw (c.number-2.ensures, take_all 8 c.field-s.result.now (omega (arith, c.if-s-ne8.false)), c.field-s.ensures)
+returns c = c.unwrap_or-2.ensures ∙ rw (c.number-2.ensures, take_all 8 c.field-s.result.now (omega (arith, c.if-s-ne8.false)), c.field-s.ensures)

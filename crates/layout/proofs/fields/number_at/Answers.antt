@@ -3,4 +3,4 @@
 use Rattle.layout.proofs.fields.number_at.Goals as goal
 
 pub returns : goal.returns
-returns c = rw (c.value.ensures, c.number.ensures, c.field.ensures)
+returns c = rw (c.unwrap_or.ensures, c.number.ensures, c.field.ensures)

@@ -5,4 +5,4 @@ use Rattle.layout.proofs.rules.first_day.Goals as goal
 
 pub returns : goal.returns
 unfolding first_day_rule
-returns c = rw (c.is_day.ensures, c.value.ensures, c.number.ensures)
+returns c = rw (c.is_day.ensures, c.unwrap_or.ensures, c.number.ensures)

@@ -14,8 +14,8 @@ returns-then-not-within c = rw (← c.blank.ensures, c.if-blank.false, ← c.num
 
 pub returns-then-most-eq99 : goal.returns-then-most-eq99
 unfolding most_persons
-returns-then-most-eq99 c = rw (← c.blank.ensures, c.if-blank.false, ← c.number-n.ensures, ← c.within.ensures, not-false c.within.result c.if-not-within.false-raw, ← c.value-most.ensures, eq-eqb _ _ c.if-most-eq99.true)
+returns-then-most-eq99 c = rw (← c.blank.ensures, c.if-blank.false, ← c.number-n.ensures, ← c.within.ensures, not-false c.within.result c.if-not-within.false-raw, ← c.unwrap_or-most.ensures, eq-eqb _ _ c.if-most-eq99.true)
 
 pub returns : goal.returns
 unfolding most_persons
-returns c = rw (← c.blank.ensures, c.if-blank.false, ← c.number-n.ensures, ← c.within.ensures, not-false c.within.result c.if-not-within.false-raw, ← c.value-most.ensures, ne_eqb _ _ c.if-most-eq99.false, c.value.ensures, c.number.ensures)
+returns c = rw (← c.blank.ensures, c.if-blank.false, ← c.number-n.ensures, ← c.within.ensures, not-false c.within.result c.if-not-within.false-raw, ← c.unwrap_or-most.ensures, ne_eqb _ _ c.if-most-eq99.false, c.unwrap_or.ensures, c.number.ensures)
