@@ -1,6 +1,7 @@
 -- Laws of for all, there is and the same: a step at a place of the list, the end, and what each means.
 -- Assumes nothing.
 use Rattle.std.proofs.Common.{◌≡◌, ℕ, zero, suc, ◌+◌, ◌<◌, ◌≤◌, Bool, true, false, cond, ◌&&◌, ◌||◌, eqb, ltb, ◌⊎◌, List, [], ◌∷◌, ◌++◌, map, length, get_or, take, drop, set, replicate, sym, refl, ap, ◌∙◌, ap₂, inl, inr, ⊎_elim, suc-le-suc, zero-le, le_of_suc-le-suc, not-suc-le-zero, zero-add, add-one, one-add, arith, length-append, length-drop, drop_of_length-le, get_or-drop, drop-cons, lt-ltb, eq-eqb, eqb-true}
+use Rattle.std.specs.List.{list_all}
 use mathlib.Core.Bool.{or-true, and-false, and_assoc}
 use lib.Dec.{leb-suc-suc}
 use lib.ListN.{get_or-append}
@@ -17,6 +18,12 @@ module _ {A : Type 0} (p : A → Bool) where
   pub every_end : (s : List A) (i : ℕ) → length s ≤ i → every p (drop i s) ≡ true
   unfolding every
   every_end s i h = rw (drop_of_length-le s h)
+
+  -- and std's word for it
+  pub every_is_all : (s : List A) → list_all p s ≡ every p s
+  unfolding every
+  every_is_all [] = refl
+  every_is_all (x ∷ s) = rw (every_is_all s)
 
   -- each element passes
   pub every_at : (s : List A) → every p s ≡ true → (i : ℕ) (d : A) → i < length s → p (get_or s i d) ≡ true

@@ -55,16 +55,6 @@ pub fn both(a: bool, b: bool) -> bool
     false
 }
 
-// The difference, 0 where there is none.
-pub fn less(a: usize, b: usize) -> usize
-    ensures { result ≡ a - b }
-{
-    if a < b {
-        return 0;
-    }
-    a - b
-}
-
 // The `len` bytes from `start` on, or as many of them as there are.
 pub fn part(s: &[u8], start: usize, len: usize) -> &[u8]
     ensures { result.now ≡ take len (drop start s.now) }
@@ -84,11 +74,7 @@ pub fn part(s: &[u8], start: usize, len: usize) -> &[u8]
 pub fn byte_at(s: &[u8], position: usize) -> u8
     ensures { result ≡ byte_at position s.now }
 {
-    let i = less(position, 1);
-    if i < s.len() {
-        return s[i];
-    }
-    0
+    s.get(position.saturating_sub(1)).copied().unwrap_or(0)
 }
 
 // Whether two slices have the same bytes: four at a time while there are four, then one at a time.
@@ -106,11 +92,10 @@ pub fn same_bytes<'a>(a: &'a [u8], b: &'a [u8]) -> bool
         }
         i += 4;
     }
-    while i < n {
-        if a[i] != b[i] {
+    for k in i..n {
+        if a[k] != b[k] {
             return false;
         }
-        i += 1;
     }
     true
 }
@@ -137,10 +122,8 @@ pub fn rank(s: &[u8]) -> u64
         return 0;
     }
     let mut v: u64 = 0;
-    let mut i = 0;
-    while i < s.len() {
-        v = v * 19 + s[i] as u64;
-        i += 1;
+    for b in s {
+        v = v * 19 + *b as u64;
     }
     v
 }

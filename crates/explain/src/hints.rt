@@ -26,7 +26,7 @@ pub fn tell_field_mistakes(rt: &impl Print, bundle: &[u8], at: usize, row: Row) 
     if row.kind == rules::TEXT {
         tell_characters(rt, fields::field(body, row.start, row.length))?;
     }
-    let upto = common::less(sum(row.start, row.length), 1);
+    let upto = sum(row.start, row.length).saturating_sub(1);
     tell_two_byte_letter(rt, common::part(body, 0, upto), sum(at, 2))?;
     tell_shift(rt, bundle, sum(sum(at, 2), body.len()))
 }
@@ -89,11 +89,11 @@ fn tell_mark_nearby(rt: &impl Print, bundle: &[u8], due: usize) -> io::Result<()
     say_mark(rt, table_at(bundle, found))?;
     say(rt, b", stands ")?;
     if due < found {
-        say_length(rt, common::less(found, due))?;
+        say_length(rt, found.saturating_sub(due))?;
         print!(rt; " further on, at byte {found}: ")?;
         say(rt, b"what is before it is too long by as much.\n")
     } else {
-        say_length(rt, common::less(due, found))?;
+        say_length(rt, due.saturating_sub(found))?;
         print!(rt; " earlier, at byte {found}: ")?;
         say(rt, b"what is before it is too short by as much.\n")
     }
@@ -106,7 +106,7 @@ fn nearest_start(bundle: &[u8], due: usize) -> usize {
         if seems_start(bundle, further) {
             return further;
         }
-        let earlier = common::less(due, distance);
+        let earlier = due.saturating_sub(distance);
         if seems_start(bundle, earlier) {
             return earlier;
         }

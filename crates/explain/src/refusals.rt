@@ -116,7 +116,7 @@ fn tell_cut_short(rt: &impl Print, bundle: &[u8], record: usize) -> io::Result<(
     let at = place_of(bundle, record);
     let left = body_at(bundle, at).len();
     let length = layout::length_of(table_at(bundle, at));
-    let lacking = common::less(length, left);
+    let lacking = length.saturating_sub(left);
     say(rt, b"The bundle ends inside a record.\n")?;
     tell_record(rt, bundle, record, at)?;
     print!(rt; "Behind the mark it needs {length} bytes; the bundle has {left} left, ")?;
@@ -170,7 +170,7 @@ fn say_span(rt: &impl Print, name: &[u8], first: usize, length: usize) -> io::Re
     if length <= 1 {
         return print!(rt; " {first}");
     }
-    let last = common::less(sum(first, length), 1);
+    let last = sum(first, length).saturating_sub(1);
     print!(rt; "s {first} to {last}")
 }
 

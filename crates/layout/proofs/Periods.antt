@@ -1,6 +1,6 @@
 -- PERIODS share a day exactly if the later first day is not after the earlier last day.
 -- Assumes nothing.
-use Prim.Native.Nat.{ℕ, ◌≤◌, ◌<◌}
+use Prim.Native.Nat.{ℕ, ◌≤◌, ◌<◌, min, max}
 use mathlib.Core.Path.{◌≡◌, refl}
 use mathlib.Core.Bool.{Bool, true, false, cond}
 use mathlib.Core.List.{List}
@@ -11,6 +11,20 @@ use Rattle.layout.specs.Fields.{first_day, last_day, later, earlier, first_share
 use Rattle.layout.specs.Values.{InPeriod, Share}
 
 -- THE LATER AND THE EARLIER of two days
+pub later_is_max : (a b : ℕ) → max a b ≡ later a b
+later_is_max a b = go (leb a b) refl
+  where
+    go : (z : Bool) → leb a b ≡ z → max a b ≡ cond z b a
+    go true e = omega (arith, leb-true a b e)
+    go false e = omega (arith, leb-false a b e)
+
+pub earlier_is_min : (a b : ℕ) → min a b ≡ earlier a b
+earlier_is_min a b = go (leb a b) refl
+  where
+    go : (z : Bool) → leb a b ≡ z → min a b ≡ cond z a b
+    go true e = omega (arith, leb-true a b e)
+    go false e = omega (arith, leb-false a b e)
+
 bounds_later : (a b : ℕ) → (a ≤ later a b) × (b ≤ later a b)
 bounds_later a b = go (leb a b) refl
   where

@@ -18,13 +18,11 @@ pub fn is_all_railways(s: &[u8]) -> bool
     common::same_bytes(s, b"0000")
 }
 
+#[tactic(auto, unfolding(crate::specs::Company::is_transferor))]
 pub fn is_transferor(s: &[u8]) -> bool
     ensures { result ≡ is_transferor s.now }
 {
-    if is_all_railways(s) {
-        return false;
-    }
-    is_company(s)
+    !is_all_railways(s) && is_company(s)
 }
 
 // The number that questions and books give a company by.
@@ -35,11 +33,9 @@ pub fn company_of(s: &[u8]) -> u32
 }
 
 // Whether a railway may be asked for by a number.
+#[tactic(auto, unfolding(crate::specs::Company::is_railway))]
 pub fn is_railway(railway: u32) -> bool
     ensures { result ≡ is_railway railway }
 {
-    if railway < 1 {
-        return false;
-    }
-    railway <= 9999
+    matches!(railway, 1..=9999)
 }

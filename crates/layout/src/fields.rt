@@ -11,7 +11,7 @@ use super::{AR, CO, ME, RE};
 pub fn field(body: &[u8], start: usize, length: usize) -> &[u8]
     ensures { result.now ≡ field_at start length body.now }
 {
-    common::part(body, common::less(start, 1), length)
+    common::part(body, start.saturating_sub(1), length)
 }
 
 // The number there, 0 where there is none.
@@ -130,7 +130,7 @@ pub fn first_day(table: u32, body: &[u8]) -> u32
     if super::TABLES <= table {
         return 0;
     }
-    day_at(body, common::less(super::length_of(table), 17))
+    day_at(body, super::length_of(table).saturating_sub(17))
 }
 
 pub fn last_day(table: u32, body: &[u8]) -> u32
@@ -139,7 +139,7 @@ pub fn last_day(table: u32, body: &[u8]) -> u32
     if super::TABLES <= table {
         return 0;
     }
-    day_at(body, common::less(super::length_of(table), 7))
+    day_at(body, super::length_of(table).saturating_sub(7))
 }
 
 // Whether a day lies in the period of a record.
@@ -149,34 +149,21 @@ pub fn holds_day(table: u32, body: &[u8], day: u32) -> bool
     if super::TABLES <= table {
         return false;
     }
-    if day < first_day(table, body) {
-        return false;
-    }
-    day <= last_day(table, body)
+    first_day(table, body) <= day && day <= last_day(table, body)
 }
 
 // The first day that the periods of two records of a table share, if they share any: the later first day.
 pub fn first_shared_day<'a>(table: u32, a: &'a [u8], b: &'a [u8]) -> u32
     ensures { result ≡ first_shared table a.now b.now }
 {
-    let first = first_day(table, a);
-    let other = first_day(table, b);
-    if first <= other {
-        return other;
-    }
-    first
+    first_day(table, a).max(first_day(table, b))
 }
 
 // The last: the earlier last day.
 fn last_shared_day<'a>(table: u32, a: &'a [u8], b: &'a [u8]) -> u32
     ensures { result ≡ last_shared table a.now b.now }
 {
-    let last = last_day(table, a);
-    let other = last_day(table, b);
-    if last <= other {
-        return last;
-    }
-    other
+    last_day(table, a).min(last_day(table, b))
 }
 
 // Whether they share any. Mostly one period is over before the other begins, and then the other days are not read.
@@ -196,16 +183,11 @@ pub fn share_day<'a>(table: u32, a: &'a [u8], b: &'a [u8]) -> bool
 pub fn is_yes(co: &[u8], field: u32) -> bool
     ensures { result ≡ is_yes inCO field co.now }
 {
-    if field == 27 {
-        return common::byte_at(co, 114) == b'Y';
+    match field {
+        27 => common::byte_at(co, 114) == b'Y',
+        31..=38 => common::byte_at(co, 120 + (field - 31) as usize) == b'Y',
+        _ => false,
     }
-    if field < 31 {
-        return false;
-    }
-    if 38 < field {
-        return false;
-    }
-    common::byte_at(co, 120 + (field - 31) as usize) == b'Y'
 }
 
 // The fewest and the most persons of a CO, 0 where the field is blank.

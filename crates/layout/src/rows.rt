@@ -177,11 +177,11 @@ fn obeys(row: Row, body: &[u8]) -> bool
         NUMBER_OR_BLANK => rules::number_or_blank(s, row.least, row.most),
         FLAG => rules::flag(common::byte_at(body, start)),
         FLAG_OR_BLANK => rules::flag_or_blank(common::byte_at(body, start)),
-        MOST_PERSONS => rules::most_persons(fields::field(body, common::less(start, 2), 2), s),
+        MOST_PERSONS => rules::most_persons(fields::field(body, start.saturating_sub(2), 2), s),
         ROUNDING => rules::rounding(common::byte_at(body, start)),
-        FACTOR => rules::factor(common::byte_at(body, common::less(start, 1)), s),
+        FACTOR => rules::factor(common::byte_at(body, start.saturating_sub(1)), s),
         FIRST_DAY => rules::first_day(s),
-        LAST_DAY => rules::last_day(fields::field(body, common::less(start, 10), 8), s),
+        LAST_DAY => rules::last_day(fields::field(body, start.saturating_sub(10), 8), s),
         _ => false,
     }
 }

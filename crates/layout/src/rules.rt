@@ -31,13 +31,7 @@ pub const LAST_DAY: u32 = 11;
 fn text_byte(b: u8) -> bool
     ensures { result ≡ is_text b }
 {
-    if b < 32 {
-        return false;
-    }
-    if b <= 126 {
-        return true;
-    }
-    160 <= b
+    matches!(b, 32..=126 | 160..)
 }
 
 // No early way out: the loop has no branch, so that it runs at the speed of reading.
@@ -45,10 +39,8 @@ pub fn text(s: &[u8]) -> bool
     ensures { result ≡ every is_text s.now }
 {
     let mut good = true;
-    let mut i = 0;
-    while i < s.len() {
-        good = common::both(good, text_byte(s[i]));
-        i += 1;
+    for b in s {
+        good &= text_byte(*b);
     }
     good
 }
@@ -56,82 +48,56 @@ pub fn text(s: &[u8]) -> bool
 pub fn blank(s: &[u8]) -> bool
     ensures { result ≡ every is_blank s.now }
 {
-    let mut i = 0;
-    while i < s.len() {
-        if s[i] != b' ' {
-            return false;
-        }
-        i += 1;
-    }
-    true
+    s.iter().all(|b| *b == b' ')
 }
 
+#[tactic(auto, unfolding(crate::specs::Rules::number_or_blank))]
 pub fn number_or_blank(s: &[u8], least: u32, most: u32) -> bool
     ensures { result ≡ number_or_blank least most s.now }
 {
-    if blank(s) {
-        return true;
-    }
-    common::within(common::number(s), least, most)
+    blank(s) || common::within(common::number(s), least, most)
 }
 
 pub fn flag(b: u8) -> bool
     ensures { result ≡ is_flag b }
 {
-    match b {
-        b'Y' => true,
-        b'N' => true,
-        _ => false,
-    }
+    matches!(b, b'Y' | b'N')
 }
 
 pub fn flag_or_blank(b: u8) -> bool
     ensures { result ≡ flag_or_blank b }
 {
-    if b == b' ' {
-        return true;
-    }
-    flag(b)
+    b == b' ' || flag(b)
 }
 
 // Most persons: blank, or 01 to 99 and, if below 99, not below the least.
+#[tactic(auto, unfolding(crate::specs::Rules::most_persons))]
 pub fn most_persons<'a>(least: &'a [u8], s: &'a [u8]) -> bool
     ensures { result ≡ most_persons least.now s.now }
 {
     if blank(s) {
         return true;
     }
-    let n = common::number(s);
-    if !common::within(n, 1, 99) {
-        return false;
+    match common::number(s) {
+        Some(99) => true,
+        Some(most) => matches!(most, 1..=98) && common::number(least).unwrap_or(0) <= most,
+        None => false,
     }
-    let most = n.unwrap_or(0);
-    if most == 99 {
-        return true;
-    }
-    common::number(least).unwrap_or(0) <= most
 }
 
 pub fn rounding(b: u8) -> bool
     ensures { result ≡ is_rounding b }
 {
-    match b {
-        b'+' => true,
-        b'-' => true,
-        b'0' => true,
-        b'N' => true,
-        _ => false,
-    }
+    matches!(b, b'+' | b'-' | b'0' | b'N')
 }
 
 // The factor after its rounding byte: 000 only under N.
+#[tactic(auto, unfolding(crate::specs::Rules::factor_rule))]
 pub fn factor(mode: u8, s: &[u8]) -> bool
     ensures { result ≡ factor_rule mode s.now }
 {
-    if mode == b'N' {
-        return common::within(common::number(s), 0, 999);
-    }
-    common::within(common::number(s), 1, 999)
+    let least = if mode == b'N' { 0 } else { 1 };
+    common::within(common::number(s), least, 999)
 }
 
 pub fn first_day(s: &[u8]) -> bool
@@ -141,12 +107,10 @@ pub fn first_day(s: &[u8]) -> bool
 }
 
 // The last day, not before the first.
+#[tactic(auto, unfolding(crate::specs::Rules::last_day_rule, crate::specs::Rules::first_day_rule))]
 pub fn last_day<'a>(first: &'a [u8], s: &'a [u8]) -> bool
     ensures { result ≡ last_day_rule first.now s.now }
 {
     let last = common::number(s).unwrap_or(0);
-    if !super::dates::is_day(last) {
-        return false;
-    }
-    common::number(first).unwrap_or(0) <= last
+    super::dates::is_day(last) && common::number(first).unwrap_or(0) <= last
 }

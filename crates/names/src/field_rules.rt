@@ -87,7 +87,7 @@ fn say_most_persons_rule(
 ) -> io::Result<()> {
     say_limits_or_blank(rt, 1, 99, 2)?;
     say(rt, b", and if it is 01 to 98, not below the minimum")?;
-    say_back(rt, of_table, common::less(field, 1), body)
+    say_back(rt, of_table, field.saturating_sub(1), body)
 }
 
 fn say_factor_rule(
@@ -96,7 +96,7 @@ fn say_factor_rule(
     field: usize,
     body: &[u8],
 ) -> io::Result<()> {
-    let rounding = rows::of_field(of_table, common::less(field, 1));
+    let rounding = rows::of_field(of_table, field.saturating_sub(1));
     let least = if common::byte_at(body, rounding.start) == b'N' {
         0
     } else {
@@ -104,7 +104,7 @@ fn say_factor_rule(
     };
     say_limits(rt, least, 999, 3)?;
     say(rt, b", under the rounding")?;
-    say_back(rt, of_table, common::less(field, 1), body)?;
+    say_back(rt, of_table, field.saturating_sub(1), body)?;
     say(rt, b"; 000 is for rounding N only")
 }
 
@@ -123,5 +123,5 @@ fn say_last_day_rule(
 ) -> io::Result<()> {
     say_day_rule(rt)?;
     say(rt, b", and not before the first day")?;
-    say_back(rt, of_table, common::less(field, 2), body)
+    say_back(rt, of_table, field.saturating_sub(2), body)
 }

@@ -30,32 +30,28 @@ pub fn home(slots: usize, number: u64) -> usize
 }
 
 // The slot where it is looked for next, around the end.
+#[tactic(auto, unfolding(crate::specs::Seen::slot_behind))]
 pub fn slot_behind(slots: usize, slot: usize) -> usize
     ensures { result ≡ slot_behind slots slot }
 {
-    if slot < common::less(slots, 1) {
-        return slot + 1;
+    if slot < slots.saturating_sub(1) {
+        slot + 1
+    } else {
+        0
     }
-    0
 }
 
 // The head of a slot, 0 where there is none.
 pub fn head_at(heads: &[u8], slot: usize) -> u8
     ensures { result ≡ get_or heads.now slot 0 }
 {
-    if heads.len() <= slot {
-        return 0;
-    }
-    heads[slot]
+    heads.get(slot).copied().unwrap_or(0)
 }
 
 fn low_at(lows: &[u16], slot: usize) -> u16
     ensures { result ≡ get_or lows.now slot 0 }
 {
-    if lows.len() <= slot {
-        return 0;
-    }
-    lows[slot]
+    lows.get(slot).copied().unwrap_or(0)
 }
 
 // The value in a slot.

@@ -20,19 +20,19 @@ returns-then-four_at c =
 pub loop-i-preserved : goal.loop-i-preserved
 loop-i-preserved c =
     let x = c.args in
-    let bytes-a : (k : ℕ) → get_or x.a.now k 0 < 256 = λ k. omega (arith, c.shared_slice_known-1.given k) in
-    let bytes-b : (k : ℕ) → get_or x.b.now k 0 < 256 = λ k. omega (arith, c.shared_slice_known-2-1.given k) in
+    let bytes-a : (k : ℕ) → get_or x.a.now k 0 < 256 = λ k. omega (arith, c.type_inv.a k) in
+    let bytes-b : (k : ℕ) → get_or x.b.now k 0 < 256 = λ k. omega (arith, c.type_inv.b k) in
     let e = sym c.four_at.ensures ∙ (c.if-four_at.false ∙ c.four_at-in-loop-i.ensures) in
     (omega arith, c.loop-i.invariant.1, four_more x.a.now x.b.now bytes-a bytes-b c.loop-i.i c.loop-i.invariant.2 e)
 
-pub loop-i-2-init : goal.loop-i-2-init
-loop-i-2-init c = c.loop-i.invariant
+pub loop-k-init : goal.loop-k-init
+loop-k-init c = c.loop-i.invariant
 
-pub returns-then-a-i : goal.returns-then-a-i
-returns-then-a-i c = sym (not_same _ _ (λ e. c.if-a-i.true (rw e)))
+pub returns-then-a-k : goal.returns-then-a-k
+returns-then-a-k c = sym (not_same _ _ (λ e. c.if-a-k.true (rw e)))
 
-pub loop-i-2-preserved : goal.loop-i-2-preserved
-loop-i-2-preserved c = (omega arith, c.loop-i-2.invariant.1, below_more _ _ c.loop-i-2.invariant.2 c.if-a-i.false)
+pub loop-k-preserved : goal.loop-k-preserved
+loop-k-preserved c = (omega arith, c.loop-k.invariant.1, below_more _ _ c.loop-k.invariant.2 c.if-a-k.false)
 
 pub returns : goal.returns
-returns c = sym (is_same _ _ (ext_get_or 0 _ _ c.loop-i-2.invariant.1 (λ k h. c.loop-i-2.invariant.2 k (omega arith))))
+returns c = sym (is_same _ _ (ext_get_or 0 _ _ c.loop-k.invariant.1 (λ k h. c.loop-k.invariant.2 k (omega arith))))

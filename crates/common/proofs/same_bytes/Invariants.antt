@@ -12,8 +12,5 @@ invariant-loop-i l = SameBelow l.a l.b l.i
 abbrev pub decreases-loop-i : goal.decreases-loop-i
 decreases-loop-i l = length l.a - l.i
 
-abbrev pub invariant-loop-i-2 : goal.invariant-loop-i-2
-invariant-loop-i-2 l = SameBelow l.a l.b l.i
-
-abbrev pub decreases-loop-i-2 : goal.decreases-loop-i-2
-decreases-loop-i-2 l = length l.a - l.i
+abbrev pub invariant-loop-k : goal.invariant-loop-k
+invariant-loop-k l = SameBelow l.a l.b l.k

@@ -3,4 +3,4 @@
 use Rattle.layout.proofs.fields.field.Goals as goal
 
 pub returns : goal.returns
-returns c = rw (c.part.ensures, c.less.ensures)
+returns c = rw (c.part.ensures, c.saturating_sub.ensures)

@@ -14,4 +14,4 @@ pub returns : goal.returns
 unfolding first_day
 returns c =
     let p = period _ c.if-table-ge-TABLES.false in
-    rw (p.first, p.first_long, ← c.length_of.ensures, ← c.less.ensures, ← c.day_at.ensures)
+    rw (p.first, p.first_long, ← c.length_of.ensures, ← c.saturating_sub.ensures, ← c.day_at.ensures)

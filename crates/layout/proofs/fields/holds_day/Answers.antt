@@ -10,10 +10,10 @@ pub returns-then-table-ge-TABLES : goal.returns-then-table-ge-TABLES
 unfolding holds_day has_period any
 returns-then-table-ge-TABLES c = rw (no_table_lem _ c.if-table-ge-TABLES.true)
 
-pub returns-then-day-first_day : goal.returns-then-day-first_day
+pub returns-then-first_day-day : goal.returns-then-first_day-day
 unfolding holds_day
-returns-then-day-first_day c = rw ((period _ c.if-table-ge-TABLES.false).has, ← c.first_day.ensures, lt-leb _ _ c.if-day-first_day.true)
+returns-then-first_day-day c = rw ((period _ c.if-table-ge-TABLES.false).has, ← c.first_day.ensures, le-leb _ _ c.if-first_day-day.true, ← c.last_day.ensures)
 
-pub returns : goal.returns
+pub returns-else-first_day-day : goal.returns-else-first_day-day
 unfolding holds_day
-returns c = rw ((period _ c.if-table-ge-TABLES.false).has, ← c.first_day.ensures, le-leb _ _ c.if-day-first_day.false, ← c.last_day.ensures)
+returns-else-first_day-day c = rw ((period _ c.if-table-ge-TABLES.false).has, ← c.first_day.ensures, lt-leb _ _ c.if-first_day-day.false)

@@ -14,4 +14,4 @@ pub returns : goal.returns
 unfolding last_day
 returns c =
     let p = period _ c.if-table-ge-TABLES.false in
-    rw (p.last, p.last_long, ← c.length_of.ensures, ← c.less.ensures, ← c.day_at.ensures)
+    rw (p.last, p.last_long, ← c.length_of.ensures, ← c.saturating_sub.ensures, ← c.day_at.ensures)

@@ -35,7 +35,7 @@ returns-in-6 c = rw (c.in-6.is, c.flag_or_blank.ensures, c.byte_at-in-6.ensures)
 
 pub returns-in-7 : goal.returns-in-7
 unfolding obeys_row kept_beside ruled
-returns-in-7 c = rw (c.in-7.is, c.most_persons.ensures, c.field.ensures, c.less.ensures, c.field-s.ensures)
+returns-in-7 c = rw (c.in-7.is, c.most_persons.ensures, c.field.ensures, c.saturating_sub.ensures, c.field-s.ensures)
 
 pub returns-in-8 : goal.returns-in-8
 unfolding obeys_row kept_beside ruled
@@ -43,7 +43,7 @@ returns-in-8 c = rw (c.in-8.is, c.rounding.ensures, c.byte_at-in-8.ensures)
 
 pub returns-in-9 : goal.returns-in-9
 unfolding obeys_row kept_beside ruled
-returns-in-9 c = rw (c.in-9.is, c.factor.ensures, c.byte_at-in-9.ensures, c.less-in-9.ensures, c.field-s.ensures)
+returns-in-9 c = rw (c.in-9.is, c.factor.ensures, c.byte_at-in-9.ensures, c.saturating_sub-in-9.ensures, c.field-s.ensures)
 
 pub returns-in-10 : goal.returns-in-10
 unfolding obeys_row kept_beside ruled
@@ -51,7 +51,7 @@ returns-in-10 c = rw (c.in-10.is, c.first_day.ensures, c.field-s.ensures)
 
 pub returns-in-11 : goal.returns-in-11
 unfolding obeys_row kept_beside ruled
-returns-in-11 c = rw (c.in-11.is, c.last_day.ensures, c.field-in-11.ensures, c.less-in-11.ensures, c.field-s.ensures)
+returns-in-11 c = rw (c.in-11.is, c.last_day.ensures, c.field-in-11.ensures, c.saturating_sub-in-11.ensures, c.field-s.ensures)
 
 pub returns-in_default : goal.returns-in_default
 unfolding obeys_row kept_beside ruled

@@ -1,20 +1,13 @@
--- `layout::rules::blank` meets its contract. The loop's invariant: what is left decides.
+-- `layout::rules::blank` meets its contract: `all` gives what `every` says.
 -- Assumes nothing.
-use mathlib.Core.Path.{refl, sym, ◌∙◌}
-use native.Mathlib.Omega.{arith}
-use borrow.Author.Tests.{eq-eqb, ne_eqb}
-use Rattle.common.proofs.Lists.{every_step, every_end}
+use Rattle.std.proofs.Common.{◌∙◌, rules, tests}
+use Rattle.std.proofs.lemmas.Iterator.{YieldsList-from_slice}
+use Rattle.std.proofs.lemmas.Iterator.Search.{all_from_yields_List}
+use Rattle.common.proofs.Lists.{every_is_all}
 use Rattle.layout.specs.Bytes.{is_blank}
 use Rattle.layout.proofs.rules.blank.Goals as goal
 
-pub loop-i-init : goal.loop-i-init
-loop-i-init c = (omega arith, refl)
-
-pub returns-then-s-i-ne32 : goal.returns-then-s-i-ne32
-returns-then-s-i-ne32 c = sym (c.loop-i.invariant.1 ∙ (every_step is_blank _ _ 0 c.loop-i-test.true ∙ rw (ne_eqb _ _ c.if-s-i-ne32.true) refl))
-
-pub loop-i-preserved : goal.loop-i-preserved
-loop-i-preserved c = (omega arith, c.loop-i.invariant.1 ∙ (every_step is_blank _ _ 0 c.loop-i-test.true ∙ rw (eq-eqb _ _ c.if-s-i-ne32.false) refl))
-
 pub returns : goal.returns
-returns c = sym (c.loop-i.invariant.1 ∙ every_end is_blank _ _ c.loop-i-test.false)
+returns c =
+    let s = c.args.s.now in
+    all_from_yields_List is_blank _ _ _ c.all.ensures.ran (YieldsList-from_slice s cc) (λ x b q k. search (rules, tests)) ∙ every_is_all is_blank s
