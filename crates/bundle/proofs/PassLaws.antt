@@ -5,7 +5,7 @@ use Prim.Native.Nat.{ℕ, ◌+◌, ◌-◌, ◌≤◌, ◌<◌}
 use mathlib.Core.Path.{◌≡◌, refl, ◌∙◌}
 use mathlib.Core.Bool.{Bool, true, false, cond, not}
 use mathlib.Core.Logic.{⊎_elim}
-use mathlib.Core.List.{List, [], ◌∷◌, ◌++◌, map}
+use mathlib.Core.List.{List, [], ◌∷◌, ◌++◌}
 use native.Mathlib.Omega.{arith}
 use lib.Dec.{eqb, ltb}
 use lib.ListN.{length, get_or, take, drop, length-drop, drop_of_length-le}
@@ -15,10 +15,11 @@ use Rattle.common.specs.Lists.{same}
 use Rattle.common.specs.Checks.{refuse, Finding, clean, fault, first_fault, each_from}
 use Rattle.common.specs.declared.Refusal.{Refusal}
 use Rattle.common.proofs.Checks.{by_finding, or_else, fault_append}
+use Rattle.layout.specs.declared.rows.Row.{Row}
 use Rattle.layout.specs.Layout.{layout}
 use Rattle.layout.specs.Fields.{transferor_of}
 use Rattle.layout.specs.Rules.{first_broken, broken_field}
-use Rattle.layout.specs.Helpers.{as_row, first_row, obeys_row}
+use Rattle.layout.specs.Helpers.{first_row, obeys_row}
 use Rattle.layout.proofs.BrokenField.{broken_in_table}
 use Rattle.bundle.specs.Records.{Rec, no_rec, step_of, between, records_of, rest_of}
 use Rattle.bundle.specs.Keys.{other_transferor, earlier_of}
@@ -39,8 +40,8 @@ unfolding first_pass
 first_start s = refl
 
 -- the first field that breaks its rule, from the rows as they were lent
-pub found_field : (t : ℕ) (body : List ℕ) {rows own : List (List ℕ)} {f : ℕ} → rows ≡ layout → own ≡ take (first_row (t + 1) - first_row t) (drop (first_row t) rows)
-    → f ≡ first_broken (obeys_row body) (map as_row own) → f ≡ broken_field t body
+pub found_field : (t : ℕ) (body : List ℕ) {rows own : List Row} {f : ℕ} → rows ≡ layout → own ≡ take (first_row (t + 1) - first_row t) (drop (first_row t) rows)
+    → f ≡ first_broken (obeys_row body) own → f ≡ broken_field t body
 found_field t body e o q = rw (q, o, e) (broken_in_table t body)
 
 module _ (s : List ℕ) (p i : ℕ) (h : Here s p i) where

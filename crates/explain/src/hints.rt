@@ -1,8 +1,9 @@
 // What the usual mistakes look like: small letters, bytes too many or too few, and a file that was saved in other characters.
 use super::places::body_at;
 use bundle::walk::table_at;
+use layout::fields;
 use layout::rows::Row;
-use layout::{fields, rules};
+use layout::rules::Rule;
 use names::field_names::say_mark;
 use names::field_rules::first_bad;
 use names::words::{say, say_length, say_quoted, sum};
@@ -23,7 +24,7 @@ pub fn tell_mark_mistakes(rt: &impl Print, bundle: &[u8], at: usize) -> io::Resu
 // What may be wrong in a record of which a field breaks its rule.
 pub fn tell_field_mistakes(rt: &impl Print, bundle: &[u8], at: usize, row: Row) -> io::Result<()> {
     let body = body_at(bundle, at);
-    if row.kind == rules::TEXT {
+    if matches!(row.rule, Rule::Text) {
         tell_characters(rt, fields::field(body, row.start, row.length))?;
     }
     let upto = sum(row.start, row.length).saturating_sub(1);

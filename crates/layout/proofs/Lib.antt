@@ -1,6 +1,7 @@
 pub mod Figures
 pub mod Calendar
 pub mod MonthRule
+pub mod RuleNumbers
 pub mod Tables
 pub mod Flags
 pub mod BrokenField

@@ -18,13 +18,16 @@ use Rattle.common.proofs.Least.{before}
 use Rattle.common.specs.Digits.{number_of, value_of, is_within}
 use Rattle.common.proofs.Lists.{same_is, same_parts}
 use Rattle.common.proofs.Tests.{never, both_true, side}
-use Rattle.layout.specs.Layout.{CO, NUMBER, FIRST_DAY, LAST_DAY, no_row, no_table, tables, table_count, table_at, end_of, length_of, stand_from, numbers}
-use Rattle.layout.specs.Fields.{field_at, bytes_in, row_with, row_of, bytes_of, transferor_of, of_offers, offer_of, railway_of, code_of, code_fits, same_key, day_row, has_period}
+use Rattle.layout.specs.Layout.{CO, no_row, no_table, tables, table_count, table_at, end_of, length_of, stand_from}
+use Rattle.layout.specs.Fields.{field_at, bytes_in, row_with, row_of, bytes_of, transferor_of, of_offers, offer_of, railway_of, code_of, code_fits, same_key, is_first, is_last, day_row, has_period}
 use Rattle.layout.specs.Company.{is_company}
 use Rattle.layout.specs.Rules.{ruled, kept_beside, keeps_row, first_broken, broken_field, keeps_rules}
-use Rattle.layout.specs.Helpers.{as_row, no_span, code_span, key_length, table_step, key_number}
+use Rattle.layout.specs.Helpers.{no_span, code_span, key_length, table_step, key_number}
 use Rattle.layout.specs.declared.fields.Span.{Span}
 use Rattle.layout.specs.declared.rows.Row.{Row}
+use Rattle.layout.specs.declared.rules.Rule.{Rule}
+use Rattle.layout.specs.declared.rules.Rule.TheVariants.{Number}
+use Rattle.layout.proofs.RuleNumbers.{least_of, most_of, alike_rules, same_rule, alike_rows, same_row}
 
 -- a test that no number below n fails holds at each
 pub computed : (p : ℕ → Bool) (n : ℕ) → least (λ k. not (p k)) n ≡ n → (k : ℕ) → k < n → p k ≡ true
@@ -48,13 +51,13 @@ marks_differ t h =
 
 -- ALIKE: the rows of field 1 in every table, and of fields 2 and 3 in every table that has a railway, are CO's
 abbrev alike : ℕ → ℕ → Bool
-alike f t = same (numbers 0 (row_of t f)) (numbers 0 (row_of CO f))
+alike f t = alike_rows (row_of t f) (row_of CO f)
 
 abbrev has : ℕ → ℕ → Bool
 has f t = any (λ (r : Row). eqb r.field f) (table_at t).rows
 
 row_alike : (f t : ℕ) → alike f t ≡ true → row_of t f ≡ row_of CO f
-row_alike f t e = ap as_row (same_is (numbers 0 (row_of t f)) (numbers 0 (row_of CO f)) e)
+row_alike f t e = same_row (row_of t f) (row_of CO f) e
 
 pub transferor_stands : (t : ℕ) (body : List ℕ) → t < table_count → bytes_of t 1 body ≡ transferor_of body
 unfolding least same row_of row_with table_at tables transferor_of bytes_of
@@ -156,26 +159,26 @@ same_number_lem t a b e = ap (λ k. rank_of k + t * table_step) (same_is (take (
 -- PERIODS: every table has one, in the last 18 bytes of its records
 pub record Period (t : ℕ) : Type 0 where
   pub has : has_period t ≡ true
-  pub first : (day_row FIRST_DAY t).start ≡ length_of t - 17
-  pub first_long : (day_row FIRST_DAY t).length ≡ 8
-  pub last : (day_row LAST_DAY t).start ≡ length_of t - 7
-  pub last_long : (day_row LAST_DAY t).length ≡ 8
+  pub first : (day_row is_first t).start ≡ length_of t - 17
+  pub first_long : (day_row is_first t).length ≡ 8
+  pub last : (day_row is_last t).start ≡ length_of t - 7
+  pub last_long : (day_row is_last t).length ≡ 8
 
 pub period : (t : ℕ) → t < table_count → Period t
 unfolding least any has_period day_row row_with length_of end_of table_at tables
 period t h =
     record {
       has = computed has_period table_count refl t h;
-      first = eqb-true _ _ (computed (λ u. eqb (day_row FIRST_DAY u).start (length_of u - 17)) table_count refl t h);
-      first_long = eqb-true _ _ (computed (λ u. eqb (day_row FIRST_DAY u).length 8) table_count refl t h);
-      last = eqb-true _ _ (computed (λ u. eqb (day_row LAST_DAY u).start (length_of u - 7)) table_count refl t h);
-      last_long = eqb-true _ _ (computed (λ u. eqb (day_row LAST_DAY u).length 8) table_count refl t h);
+      first = eqb-true _ _ (computed (λ u. eqb (day_row is_first u).start (length_of u - 17)) table_count refl t h);
+      first_long = eqb-true _ _ (computed (λ u. eqb (day_row is_first u).length 8) table_count refl t h);
+      last = eqb-true _ _ (computed (λ u. eqb (day_row is_last u).start (length_of u - 7)) table_count refl t h);
+      last_long = eqb-true _ _ (computed (λ u. eqb (day_row is_last u).length 8) table_count refl t h);
     }
 
 -- and what is no table has none
-pub no_days : (kind t : ℕ) → table_count ≤ t → day_row kind t ≡ no_row
+pub no_days : (is_day : Rule → Bool) (t : ℕ) → table_count ≤ t → day_row is_day t ≡ no_row
 unfolding day_row row_with
-no_days kind t h = rw (no_table_lem t h)
+no_days is_day t h = rw (no_table_lem t h)
 
 -- A KEPT RECORD keeps the row of each field that its table has
 first_with_lem : (p q : Row → Bool) (rs : List Row) → every q rs ≡ true → any p rs ≡ true → q (row_with p rs) ≡ true
@@ -224,16 +227,22 @@ module _ (t : ℕ) (o : of_offers t ≡ true) (body : List ℕ) (k : keeps_rules
   unfolding railway_of bytes_of keeps_row kept_beside ruled row_of row_with table_at tables
   railway_kept = rw (railway_row t o).0 at (keeps_field t 3 body k (railway_row t o).1)
 
-codes : (t : ℕ) → ((table_at t).code ≡ 0 → ⊥) → ((row_of t (table_at t).code).kind ≡ NUMBER) × (has (table_at t).code t ≡ true)
-unfolding least any row_of row_with table_at tables
+abbrev code_rule : ℕ → Rule
+code_rule t = (row_of t (table_at t).code).rule
+
+abbrev numbered_code : ℕ → Bool
+numbered_code t = alike_rules (code_rule t) (Number (least_of (code_rule t)) (most_of (code_rule t)))
+
+codes : (t : ℕ) → ((table_at t).code ≡ 0 → ⊥) → (code_rule t ≡ Number (least_of (code_rule t)) (most_of (code_rule t))) × (has (table_at t).code t ≡ true)
+unfolding least any same row_of row_with table_at tables
 codes t n =
     let h : t < table_count = ⊎_elim (λ h. h) (λ h. absurd (n (rw (no_table_lem t h)))) (side t table_count) in
     let c : not (eqb (table_at t).code 0) ≡ true = rw (ne_eqb (table_at t).code 0 n) in (
-      eqb-true _ _ (if_so (not (eqb (table_at t).code 0)) c (computed (λ u. not (not (eqb (table_at u).code 0)) || eqb (row_of u (table_at u).code).kind NUMBER) table_count refl t h)),
+      same_rule _ _ (if_so (not (eqb (table_at t).code 0)) c (computed (λ u. not (not (eqb (table_at u).code 0)) || numbered_code u) table_count refl t h)),
       if_so (not (eqb (table_at t).code 0)) c (computed (λ u. not (not (eqb (table_at u).code 0)) || has (table_at u).code u) table_count refl t h),
     )
 
 pub code_kept : (t : ℕ) → ((table_at t).code ≡ 0 → ⊥) → (body : List ℕ) → keeps_rules t body ≡ true
-    → is_within (row_of t (table_at t).code).least (row_of t (table_at t).code).most (number_of (bytes_of t (table_at t).code body)) ≡ true
+    → is_within (least_of (code_rule t)) (most_of (code_rule t)) (number_of (bytes_of t (table_at t).code body)) ≡ true
 unfolding keeps_row kept_beside ruled bytes_of
 code_kept t n body k = rw (codes t n).0 at (keeps_field t (table_at t).code body k (codes t n).1)

@@ -15,16 +15,16 @@ use Rattle.common.specs.Lists.{every, any, same, up_to}
 use Rattle.common.specs.Digits.{number_of}
 use Rattle.common.proofs.Tests.{both_true}
 use Rattle.common.proofs.Listed.{every_listed, listed_every, any_listed}
-use Rattle.common.proofs.Lists.{same_is}
 use Rattle.layout.specs.Company.{is_company}
-use Rattle.layout.specs.Layout.{TEXT, TRANSFEROR, RAILWAY, NUMBER, NUMBER_OR_BLANK, FLAG, FLAG_OR_BLANK, MOST_PERSONS, ROUNDING, FACTOR, FIRST_DAY, LAST_DAY}
-use Rattle.layout.specs.Layout.{tables, table_count, table_at, end_of, length_of, numbers}
-use Rattle.layout.specs.Fields.{row_with, row_of, bytes_of, byte_of, number_in, day_row}
+use Rattle.layout.specs.Layout.{tables, table_count, table_at, end_of, length_of}
+use Rattle.layout.specs.Fields.{row_with, row_of, bytes_of, byte_of, number_in, is_first, day_row}
 use Rattle.layout.specs.Rules.{number_or_blank, most_persons, first_day_rule, last_day_rule, ruled, kept_beside, keeps_row, keeps_rules}
-use Rattle.layout.specs.Helpers.{as_row}
 use Rattle.layout.specs.Values.{Value, Means, Field, values}
 use Rattle.layout.specs.Values.{text, transferor, railway, number, number_or_blank_value, flag, flag_or_blank_lem, most_persons_value, rounding, factor, first_day_value, last_day_value}
 use Rattle.layout.specs.declared.rows.Row.{Row}
+use Rattle.layout.specs.declared.rules.Rule.{Rule}
+use Rattle.layout.specs.declared.rules.Rule.TheVariants.{Text, Transferor, Railway, Number, NumberOrBlank, Flag, FlagOrBlank, MostPersons, Rounding, Factor, FirstDay, LastDay}
+use Rattle.layout.proofs.RuleNumbers.{alike_rules, same_rule, alike_rows, same_row}
 use Rattle.layout.proofs.Tables.{computed, keeps_field}
 use Rattle.layout.proofs.Meanings.{◌means◌, equal, either, text_means, blank_means, within_means, transferor_means}
 use Rattle.layout.proofs.Meanings.{most_number, factor_means, day_means, last_means}
@@ -34,28 +34,25 @@ module _ (t f : ℕ) where
   abbrev row : Row
   row = row_of t f
 
-  abbrev kind_limits : ℕ → ℕ → ℕ → Bool
-  kind_limits kind lowest highest = eqb row.kind kind && (eqb row.least lowest && eqb row.most highest)
+  abbrev asks : Rule → Bool
+  asks rule = alike_rules row.rule rule
 
   abbrev agrees : Value → Bool
-  agrees text = eqb row.kind TEXT
-  agrees transferor = eqb row.kind TRANSFEROR && (eqb row.length 4 && leb (row.start - 1 + 4) (length_of t))
-  agrees railway = eqb row.kind RAILWAY
-  agrees (number lowest highest) = kind_limits NUMBER lowest highest
-  agrees (number_or_blank_value lowest highest) = kind_limits NUMBER_OR_BLANK lowest highest
-  agrees flag = eqb row.kind FLAG
-  agrees flag_or_blank_lem = eqb row.kind FLAG_OR_BLANK
-  agrees (most_persons_value fewest) = eqb row.kind MOST_PERSONS && eqb (row.field - 1) fewest
-  agrees rounding = eqb row.kind ROUNDING
-  agrees (factor round) = eqb row.kind FACTOR && eqb (row.field - 1) round
-  agrees first_day_value = eqb row.kind FIRST_DAY
-  agrees (last_day_value first) = eqb row.kind LAST_DAY && same (numbers 0 (day_row FIRST_DAY t)) (numbers 0 (row_of t first))
+  agrees text = asks Text
+  agrees transferor = asks Transferor && (eqb row.length 4 && leb (row.start - 1 + 4) (length_of t))
+  agrees railway = asks Railway
+  agrees (number lowest highest) = asks (Number lowest highest)
+  agrees (number_or_blank_value lowest highest) = asks (NumberOrBlank lowest highest)
+  agrees flag = asks Flag
+  agrees flag_or_blank_lem = asks FlagOrBlank
+  agrees (most_persons_value fewest) = asks MostPersons && eqb (row.field - 1) fewest
+  agrees rounding = asks Rounding
+  agrees (factor round) = asks Factor && eqb (row.field - 1) round
+  agrees first_day_value = asks FirstDay
+  agrees (last_day_value first) = asks LastDay && alike_rows (day_row is_first t) (row_of t first)
 
-  limits : (kind lowest highest : ℕ) → kind_limits kind lowest highest ≡ true → (row.kind ≡ kind) × (row.least ≡ lowest) × (row.most ≡ highest)
-  limits kind lowest highest a =
-      let k = both_true (eqb row.kind kind) _ a in
-      let m = both_true (eqb row.least lowest) _ k.1 in
-      (eqb-true _ kind k.0, eqb-true _ lowest m.0, eqb-true _ highest m.1)
+  asked : (rule : Rule) → asks rule ≡ true → row.rule ≡ rule
+  asked rule a = same_rule row.rule rule a
 
   -- and where it agrees, the rule means the value.
   module _ (body : List ℕ) (l : length body ≡ length_of t) where
@@ -67,35 +64,31 @@ module _ (t f : ℕ) where
 
     kept_means : (v : Value) → agrees v ≡ true → keeps_row t body row means Means t f body v
     unfolding keeps_row kept_beside ruled bytes_of byte_of number_in number_or_blank most_persons first_day_rule last_day_rule is_company
-    kept_means text a = rw (eqb-true row.kind TEXT a) (text_means bytes)
+    kept_means text a = rw (asked Text a) (text_means bytes)
     kept_means transferor a =
-        let k = both_true (eqb row.kind TRANSFEROR) _ a in
+        let k = both_true (asks Transferor) _ a in
         let n = both_true (eqb row.length 4) _ k.1 in
         let inside = leb-true (row.start - 1 + 4) (length_of t) n.1 in
         let long : length bytes ≡ 4 = rw (eqb-true row.length 4 n.0) (simp (length-take, length-drop) (omega arith)) in
-        rw (eqb-true row.kind TRANSFEROR k.0) (transferor_means bytes long)
-    kept_means railway a = rw (eqb-true row.kind RAILWAY a) (within_means 0 9999 (number_of bytes))
-    kept_means (number lowest highest) a =
-        let k = limits NUMBER lowest highest a in
-        rw (k.0, k.1, k.2) (within_means lowest highest (number_of bytes))
+        rw (asked Transferor k.0) (transferor_means bytes long)
+    kept_means railway a = rw (asked Railway a) (within_means 0 9999 (number_of bytes))
+    kept_means (number lowest highest) a = rw (asked (Number lowest highest) a) (within_means lowest highest (number_of bytes))
     kept_means (number_or_blank_value lowest highest) a =
-        let k = limits NUMBER_OR_BLANK lowest highest a in
-        rw (k.0, k.1, k.2) (either _ _ (blank_means bytes) (within_means lowest highest (number_of bytes)))
-    kept_means flag a = rw (eqb-true row.kind FLAG a) (either _ _ (is _) (is _))
-    kept_means flag_or_blank_lem a = rw (eqb-true row.kind FLAG_OR_BLANK a) (either _ _ (is _) (either _ _ (is _) (is _)))
+        rw (asked (NumberOrBlank lowest highest) a) (either _ _ (blank_means bytes) (within_means lowest highest (number_of bytes)))
+    kept_means flag a = rw (asked Flag a) (either _ _ (is _) (is _))
+    kept_means flag_or_blank_lem a = rw (asked FlagOrBlank a) (either _ _ (is _) (either _ _ (is _) (is _)))
     kept_means (most_persons_value fewest) a =
-        let k = both_true (eqb row.kind MOST_PERSONS) _ a in
-        rw (eqb-true row.kind MOST_PERSONS k.0, eqb-true _ fewest k.1)
+        let k = both_true (asks MostPersons) _ a in
+        rw (asked MostPersons k.0, eqb-true _ fewest k.1)
         (either _ _ (blank_means bytes) (most_number (number_in t fewest body) (number_of bytes)))
-    kept_means rounding a = rw (eqb-true row.kind ROUNDING a) (either _ _ (is _) (either _ _ (is _) (either _ _ (is _) (is _))))
+    kept_means rounding a = rw (asked Rounding a) (either _ _ (is _) (either _ _ (is _) (either _ _ (is _) (is _))))
     kept_means (factor round) a =
-        let k = both_true (eqb row.kind FACTOR) _ a in
-        rw (eqb-true row.kind FACTOR k.0, eqb-true _ round k.1) (factor_means (byte_of t round body) bytes)
-    kept_means first_day_value a = rw (eqb-true row.kind FIRST_DAY a) (day_means (number_of bytes))
+        let k = both_true (asks Factor) _ a in
+        rw (asked Factor k.0, eqb-true _ round k.1) (factor_means (byte_of t round body) bytes)
+    kept_means first_day_value a = rw (asked FirstDay a) (day_means (number_of bytes))
     kept_means (last_day_value first) a =
-        let k = both_true (eqb row.kind LAST_DAY) _ a in
-        let d : day_row FIRST_DAY t ≡ row_of t first = ap as_row (same_is (numbers 0 (day_row FIRST_DAY t)) (numbers 0 (row_of t first)) k.1) in
-        rw (eqb-true row.kind LAST_DAY k.0, d) (last_means (number_in t first body) (number_of bytes))
+        let k = both_true (asks LastDay) _ a in
+        rw (asked LastDay k.0, same_row (day_row is_first t) (row_of t first) k.1) (last_means (number_in t first body) (number_of bytes))
 
 -- THE VALUES: a field of a record, as long as its table's are, keeps its rule exactly if it says what it may,
 pub values_hold : (p : Field) → Memᴰ p values → (body : List ℕ) → length body ≡ length_of p.table
@@ -112,9 +105,9 @@ has_a_value : (t : ℕ) → t < table_count → every (λ (r : Row). any (of_fie
 unfolding least every any up_to table_at tables
 has_a_value t h = computed (λ u. every (λ (r : Row). any (of_field u r.field) values) (table_at u).rows) table_count refl t h
 
-is_its_row : (t : ℕ) → t < table_count → every (λ (r : Row). same (numbers 0 (row_of t r.field)) (numbers 0 r)) (table_at t).rows ≡ true
+is_its_row : (t : ℕ) → t < table_count → every (λ (r : Row). alike_rows (row_of t r.field) r) (table_at t).rows ≡ true
 unfolding least every same row_of row_with table_at tables
-is_its_row t h = computed (λ u. every (λ (r : Row). same (numbers 0 (row_of u r.field)) (numbers 0 r)) (table_at u).rows) table_count refl t h
+is_its_row t h = computed (λ u. every (λ (r : Row). alike_rows (row_of u r.field) r) (table_at u).rows) table_count refl t h
 
 has_a_field : every (λ (p : Field). any (λ (r : Row). eqb r.field p.field) (table_at p.table).rows) values ≡ true
 unfolding every any up_to table_at tables
@@ -141,7 +134,7 @@ kept_by_its_values t body h l = (
       let w = any_listed (of_field t r.field) values (every_listed _ (table_at t).rows (has_a_value t h) r m) in
       let b = both_true (eqb w.0.table t) _ w.2 in
       let e = eqb-true w.0.table t b.0 in
-      let own = same_is (numbers 0 (row_of t r.field)) (numbers 0 r) (every_listed _ (table_at t).rows (is_its_row t h) r m) in
-      let r-is : r ≡ row_of t w.0.field = sym (ap as_row own) ∙ ap (row_of t) (sym (eqb-true w.0.field r.field b.1)) in
+      let own = same_row (row_of t r.field) r (every_listed _ (table_at t).rows (is_its_row t h) r m) in
+      let r-is : r ≡ row_of t w.0.field = sym own ∙ ap (row_of t) (sym (eqb-true w.0.field r.field b.1)) in
       ap (keeps_row t body) r-is ∙ field_kept t body l w.0 w.1 e (says w.0 w.1 e)),
 )

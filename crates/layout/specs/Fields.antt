@@ -1,11 +1,13 @@
 -- A field of a record, by its table and its number in the document.
 -- Assumes nothing.
-use Rattle.std.specs.Prelude.{ℕ, ◌-◌, List, [], ◌∷◌, Bool, true, cond, ◌&&◌, ◌||◌, eqb, leb, take, drop}
+use Rattle.std.specs.Prelude.{ℕ, ◌-◌, List, [], ◌∷◌, Bool, true, false, cond, ◌&&◌, eqb, leb, take, drop}
 use Rattle.common.specs.Lists.{every, any, same, byte_at}
 use Rattle.common.specs.Digits.{number_of, value_of}
 use Rattle.layout.specs.Bytes.{byte_Y}
-use Rattle.layout.specs.Layout.{CO, FLAG, FLAG_OR_BLANK, FIRST_DAY, LAST_DAY, no_row, table_at}
+use Rattle.layout.specs.Layout.{CO, no_row, table_at}
 use Rattle.layout.specs.declared.rows.Row.{Row}
+use Rattle.layout.specs.declared.rules.Rule.{Rule}
+use Rattle.layout.specs.declared.rules.Rule.TheVariants.{Flag, FlagOrBlank, FirstDay, LastDay}
 use Rattle.layout.specs.declared.fields.Grant.{Grant}
 
 -- the bytes from a position on, which counts from 1
@@ -34,8 +36,13 @@ byte_of t f body = byte_at (row_of t f).start body
 unfoldable pub number_in : ℕ → ℕ → List ℕ → ℕ
 number_in t f body = value_of (number_of (bytes_of t f body))
 
+abbrev pub is_flag_rule : Rule → Bool
+is_flag_rule Flag = true
+is_flag_rule FlagOrBlank = true
+is_flag_rule other = false
+
 abbrev pub is_flag_row : Row → Bool
-is_flag_row row = eqb row.kind FLAG || eqb row.kind FLAG_OR_BLANK
+is_flag_row row = is_flag_rule row.rule
 
 unfoldable pub is_yes : ℕ → ℕ → List ℕ → Bool
 is_yes t f body = is_flag_row (row_of t f) && eqb (byte_of t f body) byte_Y
@@ -67,17 +74,25 @@ unfoldable pub same_key : ℕ → List ℕ → List ℕ → Bool
 same_key t a b = every (λ f. same (bytes_of t f a) (bytes_of t f b)) (table_at t).key
 
 -- A PERIOD is the row of the first day and that of the last; a table without them has none. "Both days are inside the period."
-unfoldable pub day_row : ℕ → ℕ → Row
-day_row kind t = row_with (λ r. eqb r.kind kind) (table_at t).rows
+abbrev pub is_first : Rule → Bool
+is_first FirstDay = true
+is_first other = false
+
+abbrev pub is_last : Rule → Bool
+is_last LastDay = true
+is_last other = false
+
+unfoldable pub day_row : (Rule → Bool) → ℕ → Row
+day_row is_day t = row_with (λ r. is_day r.rule) (table_at t).rows
 
 unfoldable pub has_period : ℕ → Bool
-has_period t = any (λ r. eqb r.kind FIRST_DAY) (table_at t).rows
+has_period t = any (λ r. is_first r.rule) (table_at t).rows
 
 unfoldable pub first_day : ℕ → List ℕ → ℕ
-first_day t body = value_of (number_of (bytes_in (day_row FIRST_DAY t) body))
+first_day t body = value_of (number_of (bytes_in (day_row is_first t) body))
 
 unfoldable pub last_day : ℕ → List ℕ → ℕ
-last_day t body = value_of (number_of (bytes_in (day_row LAST_DAY t) body))
+last_day t body = value_of (number_of (bytes_in (day_row is_last t) body))
 
 unfoldable pub holds_day : ℕ → List ℕ → ℕ → Bool
 holds_day t body day = has_period t && (leb (first_day t body) day && leb day (last_day t body))

@@ -1,6 +1,6 @@
 -- What the code's helpers answer. Nothing here has to be believed: no promise and no answer of a call is stated with it.
 -- Assumes nothing.
-use Rattle.std.specs.Prelude.{ℕ, ◌+◌, ◌-◌, ◌*◌, Bool, cond, List, map, eqb, length, get_or, take}
+use Rattle.std.specs.Prelude.{ℕ, ◌+◌, ◌-◌, ◌*◌, Bool, cond, List, map, eqb, length, take}
 use Rattle.common.specs.Lists.{sum, byte_at}
 use Rattle.common.specs.Ranks.{rank_of}
 use Rattle.layout.specs.Layout.{Table, tables, table_at}
@@ -8,10 +8,6 @@ use Rattle.layout.specs.Fields.{field_at, row_of}
 use Rattle.layout.specs.Rules.{kept_beside}
 use Rattle.layout.specs.declared.rows.Row.{Row}
 use Rattle.layout.specs.declared.fields.Span.{Span}
-
--- a row of the code's table, its parts by name
-abbrev pub as_row : List ℕ → Row
-as_row e = record { field = get_or e 1 0; start = get_or e 2 0; length = get_or e 3 0; kind = get_or e 4 0; least = get_or e 5 0; most = get_or e 6 0 }
 
 -- how many rows the layout has
 abbrev pub row_count : ℕ

@@ -1,9 +1,11 @@
 -- The tables and their layout, in the document's shape (document 01, 'The bundle'): one block for each table, with its mark, the fields of its key, the
 -- field of its code and its rows. The rows own every position; elsewhere a field is a table and a field number.
 -- Assumes nothing.
-use Rattle.std.specs.Prelude.{ℕ, ◌+◌, ◌-◌, Bool, true, ◌&&◌, List, [], ◌∷◌, ◌++◌, map, eqb, ltb, get_or}
+use Rattle.std.specs.Prelude.{ℕ, ◌+◌, ◌-◌, Bool, true, ◌&&◌, List, [], ◌∷◌, ◌++◌, eqb, ltb, get_or}
 use Rattle.layout.specs.Bytes.{byte_A, byte_C, byte_E, byte_M, byte_O, byte_R}
 use Rattle.layout.specs.declared.rows.Row.{Row}
+use Rattle.layout.specs.declared.rules.Rule.{Rule}
+use Rattle.layout.specs.declared.rules.Rule.TheVariants.{Text, Transferor, Railway, Number, NumberOrBlank, Flag, FlagOrBlank, MostPersons, Rounding, Factor, FirstDay, LastDay}
 
 -- the tables, numbered in the order of their blocks
 abbrev pub CO : ℕ
@@ -22,54 +24,12 @@ ME = 3
 abbrev pub table_count : ℕ
 table_count = 4
 
--- the rule kinds, whose rules `Rules` says
-abbrev pub TEXT : ℕ
-TEXT = 0
-
-abbrev pub TRANSFEROR : ℕ
-TRANSFEROR = 1
-
-abbrev pub RAILWAY : ℕ
-RAILWAY = 2
-
-abbrev pub NUMBER : ℕ
-NUMBER = 3
-
-abbrev pub NUMBER_OR_BLANK : ℕ
-NUMBER_OR_BLANK = 4
-
-abbrev pub FLAG : ℕ
-FLAG = 5
-
-abbrev pub FLAG_OR_BLANK : ℕ
-FLAG_OR_BLANK = 6
-
-abbrev pub MOST_PERSONS : ℕ
-MOST_PERSONS = 7
-
-abbrev pub ROUNDING : ℕ
-ROUNDING = 8
-
-abbrev pub FACTOR : ℕ
-FACTOR = 9
-
-abbrev pub FIRST_DAY : ℕ
-FIRST_DAY = 10
-
-abbrev pub LAST_DAY : ℕ
-LAST_DAY = 11
-
--- A ROW: field, first and last position, rule kind, and the limits of a number
-abbrev pub number : ℕ → ℕ → ℕ → ℕ → ℕ → ℕ → Row
-number f first last rule lowest highest =
-    record { field = f; start = first; length = last + 1 - first; kind = rule; least = lowest; most = highest }
-
--- a field whose rule has no limits
-abbrev pub plain : ℕ → ℕ → ℕ → ℕ → Row
-plain f first last rule = number f first last rule 0 0
+-- A ROW: field, first and last position, and the rule, which `Rules` says
+abbrev pub row : ℕ → ℕ → ℕ → Rule → Row
+row f first last asked = record { field = f; start = first; length = last + 1 - first; rule = asked }
 
 abbrev pub no_row : Row
-no_row = record { field = 0; start = 0; length = 0; kind = TEXT; least = 0; most = 0 }
+no_row = record { field = 0; start = 0; length = 0; rule = Text }
 
 -- A TABLE: its mark, "the last two letters of its file name"; the fields of its key; the field of its code, 0 where it has none; its rows
 pub record Table : Type 0 where
@@ -87,28 +47,28 @@ co = record {
   key = 2 ∷ 3 ∷ [];
   code = 0;
   rows =
-      plain 1 1 4 TRANSFEROR ∷
-      number 2 5 9 NUMBER 1 99999 ∷
-      plain 3 10 13 RAILWAY ∷
-      plain 4 14 113 TEXT ∷
-      plain 27 114 114 FLAG_OR_BLANK ∷
-      number 28 115 116 NUMBER_OR_BLANK 0 99 ∷
-      plain 29 117 118 MOST_PERSONS ∷
-      number 30 119 119 NUMBER 0 9 ∷
-      plain 31 120 120 FLAG ∷
-      plain 32 121 121 FLAG ∷
-      plain 33 122 122 FLAG ∷
-      plain 34 123 123 FLAG ∷
-      plain 35 124 124 FLAG ∷
-      plain 36 125 125 FLAG ∷
-      plain 37 126 126 FLAG ∷
-      plain 38 127 127 FLAG ∷
-      number 39 128 133 NUMBER_OR_BLANK 0 100000 ∷
-      plain 40 134 134 ROUNDING ∷
-      plain 41 135 137 FACTOR ∷
-      plain 42 138 145 FIRST_DAY ∷
-      number 43 146 147 NUMBER 1 99 ∷
-      plain 44 148 155 LAST_DAY ∷
+      row 1 1 4 Transferor ∷
+      row 2 5 9 (Number 1 99999) ∷
+      row 3 10 13 Railway ∷
+      row 4 14 113 Text ∷
+      row 27 114 114 FlagOrBlank ∷
+      row 28 115 116 (NumberOrBlank 0 99) ∷
+      row 29 117 118 MostPersons ∷
+      row 30 119 119 (Number 0 9) ∷
+      row 31 120 120 Flag ∷
+      row 32 121 121 Flag ∷
+      row 33 122 122 Flag ∷
+      row 34 123 123 Flag ∷
+      row 35 124 124 Flag ∷
+      row 36 125 125 Flag ∷
+      row 37 126 126 Flag ∷
+      row 38 127 127 Flag ∷
+      row 39 128 133 (NumberOrBlank 0 100000) ∷
+      row 40 134 134 Rounding ∷
+      row 41 135 137 Factor ∷
+      row 42 138 145 FirstDay ∷
+      row 43 146 147 (Number 1 99) ∷
+      row 44 148 155 LastDay ∷
       [];
 }
 
@@ -118,17 +78,17 @@ re = record {
   key = 2 ∷ [];
   code = 2;
   rows =
-      plain 1 1 4 TRANSFEROR ∷
-      number 2 5 7 NUMBER 1 999 ∷
-      plain 3 8 37 TEXT ∷
-      plain 4 38 67 TEXT ∷
-      plain 5 68 97 TEXT ∷
-      plain 6 98 127 TEXT ∷
-      plain 7 128 157 TEXT ∷
-      plain 8 158 422 TEXT ∷
-      plain 9 423 430 FIRST_DAY ∷
-      number 10 431 432 NUMBER 1 99 ∷
-      plain 11 433 440 LAST_DAY ∷
+      row 1 1 4 Transferor ∷
+      row 2 5 7 (Number 1 999) ∷
+      row 3 8 37 Text ∷
+      row 4 38 67 Text ∷
+      row 5 68 97 Text ∷
+      row 6 98 127 Text ∷
+      row 7 128 157 Text ∷
+      row 8 158 422 Text ∷
+      row 9 423 430 FirstDay ∷
+      row 10 431 432 (Number 1 99) ∷
+      row 11 433 440 LastDay ∷
       [];
 }
 
@@ -138,19 +98,19 @@ ar = record {
   key = 2 ∷ 3 ∷ 4 ∷ [];
   code = 4;
   rows =
-      plain 1 1 4 TRANSFEROR ∷
-      number 2 5 9 NUMBER 1 99999 ∷
-      plain 3 10 13 RAILWAY ∷
-      number 4 14 16 NUMBER 1 999 ∷
-      number 5 17 22 NUMBER 0 100000 ∷
-      plain 6 23 23 FLAG ∷
-      number 7 24 26 NUMBER 1 999 ∷
-      plain 8 27 27 FLAG ∷
-      plain 9 28 28 ROUNDING ∷
-      plain 10 29 31 FACTOR ∷
-      plain 11 32 39 FIRST_DAY ∷
-      number 12 40 41 NUMBER 1 99 ∷
-      plain 13 42 49 LAST_DAY ∷
+      row 1 1 4 Transferor ∷
+      row 2 5 9 (Number 1 99999) ∷
+      row 3 10 13 Railway ∷
+      row 4 14 16 (Number 1 999) ∷
+      row 5 17 22 (Number 0 100000) ∷
+      row 6 23 23 Flag ∷
+      row 7 24 26 (Number 1 999) ∷
+      row 8 27 27 Flag ∷
+      row 9 28 28 Rounding ∷
+      row 10 29 31 Factor ∷
+      row 11 32 39 FirstDay ∷
+      row 12 40 41 (Number 1 99) ∷
+      row 13 42 49 LastDay ∷
       [];
 }
 
@@ -160,17 +120,17 @@ me = record {
   key = 2 ∷ 3 ∷ [];
   code = 0;
   rows =
-      plain 1 1 4 TRANSFEROR ∷
-      number 2 5 9 NUMBER 1 99999 ∷
-      plain 3 10 13 RAILWAY ∷
-      plain 4 14 253 TEXT ∷
-      plain 5 254 493 TEXT ∷
-      plain 6 494 733 TEXT ∷
-      plain 7 734 973 TEXT ∷
-      plain 8 974 1213 TEXT ∷
-      plain 9 1214 1221 FIRST_DAY ∷
-      number 10 1222 1223 NUMBER 1 99 ∷
-      plain 11 1224 1231 LAST_DAY ∷
+      row 1 1 4 Transferor ∷
+      row 2 5 9 (Number 1 99999) ∷
+      row 3 10 13 Railway ∷
+      row 4 14 253 Text ∷
+      row 5 254 493 Text ∷
+      row 6 494 733 Text ∷
+      row 7 734 973 Text ∷
+      row 8 974 1213 Text ∷
+      row 9 1214 1221 FirstDay ∷
+      row 10 1222 1223 (Number 1 99) ∷
+      row 11 1224 1231 LastDay ∷
       [];
 }
 
@@ -194,13 +154,10 @@ unfoldable pub stand_from : ℕ → List Row → Bool
 stand_from p [] = true
 stand_from p (r ∷ rs) = eqb r.start p && (ltb 0 r.length && stand_from (p + r.length) rs)
 
--- THE LAYOUT: the rows of all tables in turn, each as table, field, start, length, kind, least and most
-abbrev pub numbers : ℕ → Row → List ℕ
-numbers t r = t ∷ r.field ∷ r.start ∷ r.length ∷ r.kind ∷ r.least ∷ r.most ∷ []
+-- THE LAYOUT: the rows of all tables in turn
+unfoldable pub layout_from : List Table → List Row
+layout_from [] = []
+layout_from (b ∷ bs) = b.rows ++ layout_from bs
 
-unfoldable pub layout_from : ℕ → List Table → List (List ℕ)
-layout_from t [] = []
-layout_from t (b ∷ bs) = map (numbers t) b.rows ++ layout_from (t + 1) bs
-
-unfoldable pub layout : List (List ℕ)
-layout = layout_from 0 tables
+unfoldable pub layout : List Row
+layout = layout_from tables

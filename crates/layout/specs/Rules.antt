@@ -1,14 +1,16 @@
 -- What each rule kind asks of a field, and the first field that breaks its rule (document 01, 'Values').
 -- Assumes nothing.
-use Rattle.std.specs.Prelude.{ℕ, ◌-◌, List, [], ◌∷◌, Bool, false, cond, ◌&&◌, ◌||◌, eqb, leb}
+use Rattle.std.specs.Prelude.{ℕ, ◌-◌, List, [], ◌∷◌, Bool, cond, ◌&&◌, ◌||◌, eqb, leb}
 use Rattle.common.specs.Lists.{every, byte_at}
 use Rattle.common.specs.Digits.{number_of, value_of, is_within}
 use Rattle.layout.specs.Bytes.{is_text, is_blank, byte_blank, byte_plus, byte_minus, byte_0, byte_N, byte_Y}
 use Rattle.layout.specs.Company.{is_company, is_transferor}
 use Rattle.layout.specs.Dates.{is_day}
-use Rattle.layout.specs.Layout.{TEXT, TRANSFEROR, RAILWAY, NUMBER, NUMBER_OR_BLANK, FLAG, FLAG_OR_BLANK, MOST_PERSONS, ROUNDING, FACTOR, FIRST_DAY, LAST_DAY, table_at}
-use Rattle.layout.specs.Fields.{bytes_in, bytes_of, byte_of, day_row}
+use Rattle.layout.specs.Layout.{table_at}
+use Rattle.layout.specs.Fields.{bytes_in, bytes_of, byte_of, is_first, day_row}
 use Rattle.layout.specs.declared.rows.Row.{Row}
+use Rattle.layout.specs.declared.rules.Rule.{Rule}
+use Rattle.layout.specs.declared.rules.Rule.TheVariants.{Text, Transferor, Railway, Number, NumberOrBlank, Flag, FlagOrBlank, MostPersons, Rounding, Factor, FirstDay, LastDay}
 
 abbrev pub is_flag : ℕ → Bool
 is_flag b = eqb b byte_Y || eqb b byte_N
@@ -41,35 +43,29 @@ first_day_rule s = is_day (value_of (number_of s))
 unfoldable pub last_day_rule : List ℕ → List ℕ → Bool
 last_day_rule first s = first_day_rule s && leb (value_of (number_of first)) (value_of (number_of s))
 
--- what the rule kind asks: the first of the list that has its number
-unfoldable pub ruled : ℕ → List (ℕ × Bool) → Bool
-ruled kind [] = false
-ruled kind (r ∷ rs) = cond (eqb kind r.0) r.1 (ruled kind rs)
+-- what a rule asks of a field, of its first byte or of its bytes; most persons is held to the fewest, the factor to the rounding, and the last day to the first
+unfoldable pub ruled : List ℕ → ℕ → List ℕ → ℕ → List ℕ → Rule → Bool
+ruled fewest mode first byte s Text = every is_text s
+ruled fewest mode first byte s Transferor = is_transferor s
+ruled fewest mode first byte s Railway = is_company s
+ruled fewest mode first byte s (Number lowest highest) = is_within lowest highest (number_of s)
+ruled fewest mode first byte s (NumberOrBlank lowest highest) = number_or_blank lowest highest s
+ruled fewest mode first byte s Flag = is_flag byte
+ruled fewest mode first byte s FlagOrBlank = flag_or_blank byte
+ruled fewest mode first byte s MostPersons = most_persons fewest s
+ruled fewest mode first byte s Rounding = is_rounding byte
+ruled fewest mode first byte s Factor = factor_rule mode s
+ruled fewest mode first byte s FirstDay = first_day_rule s
+ruled fewest mode first byte s LastDay = last_day_rule first s
 
--- what the rule of a row asks of a record; most persons is held to the fewest, the factor to the rounding, and the last day to the first
+-- and so the rule of a row of a record
 unfoldable pub kept_beside : List ℕ → ℕ → List ℕ → List ℕ → Row → Bool
-kept_beside fewest mode first body row =
-    let s : List ℕ = bytes_in row body in
-    let byte : ℕ = byte_at row.start body in
-    ruled row.kind (
-    (TEXT, every is_text s) ∷
-    (TRANSFEROR, is_transferor s) ∷
-    (RAILWAY, is_company s) ∷
-    (NUMBER, is_within row.least row.most (number_of s)) ∷
-    (NUMBER_OR_BLANK, number_or_blank row.least row.most s) ∷
-    (FLAG, is_flag byte) ∷
-    (FLAG_OR_BLANK, flag_or_blank byte) ∷
-    (MOST_PERSONS, most_persons fewest s) ∷
-    (ROUNDING, is_rounding byte) ∷
-    (FACTOR, factor_rule mode s) ∷
-    (FIRST_DAY, first_day_rule s) ∷
-    (LAST_DAY, last_day_rule first s) ∷
-    [])
+kept_beside fewest mode first body row = ruled fewest mode first (byte_at row.start body) (bytes_in row body) row.rule
 
 -- a record of table t keeps the rule of a row: the fewest persons, and the rounding, are the field before it
 unfoldable pub keeps_row : ℕ → List ℕ → Row → Bool
 keeps_row t body row =
-    kept_beside (bytes_of t (row.field - 1) body) (byte_of t (row.field - 1) body) (bytes_in (day_row FIRST_DAY t) body) body row
+    kept_beside (bytes_of t (row.field - 1) body) (byte_of t (row.field - 1) body) (bytes_in (day_row is_first t) body) body row
 
 -- the field of the first of some rows that is not kept, 0 where all are
 unfoldable pub first_broken : (Row → Bool) → List Row → ℕ

@@ -1,93 +1,100 @@
-// THE table of the layout, one row for each field: table, field, first position (from 1), length, rule kind, least and most. The record check walks it.
-ghost use Rattle.std.specs.Prelude.{◌≡◌, map, take, drop, ◌-◌, ◌+◌, eqb};
+// THE table of the layout, one row for each field: its number, first position (from 1), length and rule. The record check walks it.
+ghost use Rattle.std.specs.Prelude.{◌≡◌, take, drop, ◌-◌, ◌+◌, eqb};
 ghost use Rattle.layout.specs.declared.rows.Row.{Row as SpecRow};
 ghost use Rattle.layout.specs.Layout.{layout};
 ghost use Rattle.layout.specs.Fields.{row_with};
 ghost use Rattle.layout.specs.Rules.{first_broken};
-ghost use Rattle.layout.specs.Helpers.{as_row, first_row, obeys_row};
+ghost use Rattle.layout.specs.Helpers.{first_row, obeys_row};
 
-use super::rules::{
-    FACTOR, FIRST_DAY, FLAG, FLAG_OR_BLANK, LAST_DAY, MOST_PERSONS, NUMBER, NUMBER_OR_BLANK,
-    RAILWAY, ROUNDING, TEXT, TRANSFEROR,
-};
+use super::rules::Rule;
 use super::{AR, CO, ME, RE, fields, rules};
 
 // How many rows there are.
 const ROWS: usize = 57;
 
-const LAYOUT: [[u32; 7]; ROWS] = [
-    [CO, 1, 1, 4, TRANSFEROR, 0, 0],
-    [CO, 2, 5, 5, NUMBER, 1, 99999],
-    [CO, 3, 10, 4, RAILWAY, 0, 0],
-    [CO, 4, 14, 100, TEXT, 0, 0],
-    [CO, 27, 114, 1, FLAG_OR_BLANK, 0, 0],
-    [CO, 28, 115, 2, NUMBER_OR_BLANK, 0, 99],
-    [CO, 29, 117, 2, MOST_PERSONS, 0, 0],
-    [CO, 30, 119, 1, NUMBER, 0, 9],
-    [CO, 31, 120, 1, FLAG, 0, 0],
-    [CO, 32, 121, 1, FLAG, 0, 0],
-    [CO, 33, 122, 1, FLAG, 0, 0],
-    [CO, 34, 123, 1, FLAG, 0, 0],
-    [CO, 35, 124, 1, FLAG, 0, 0],
-    [CO, 36, 125, 1, FLAG, 0, 0],
-    [CO, 37, 126, 1, FLAG, 0, 0],
-    [CO, 38, 127, 1, FLAG, 0, 0],
-    [CO, 39, 128, 6, NUMBER_OR_BLANK, 0, 100000],
-    [CO, 40, 134, 1, ROUNDING, 0, 0],
-    [CO, 41, 135, 3, FACTOR, 0, 0],
-    [CO, 42, 138, 8, FIRST_DAY, 0, 0],
-    [CO, 43, 146, 2, NUMBER, 1, 99],
-    [CO, 44, 148, 8, LAST_DAY, 0, 0],
-    [RE, 1, 1, 4, TRANSFEROR, 0, 0],
-    [RE, 2, 5, 3, NUMBER, 1, 999],
-    [RE, 3, 8, 30, TEXT, 0, 0],
-    [RE, 4, 38, 30, TEXT, 0, 0],
-    [RE, 5, 68, 30, TEXT, 0, 0],
-    [RE, 6, 98, 30, TEXT, 0, 0],
-    [RE, 7, 128, 30, TEXT, 0, 0],
-    [RE, 8, 158, 265, TEXT, 0, 0],
-    [RE, 9, 423, 8, FIRST_DAY, 0, 0],
-    [RE, 10, 431, 2, NUMBER, 1, 99],
-    [RE, 11, 433, 8, LAST_DAY, 0, 0],
-    [AR, 1, 1, 4, TRANSFEROR, 0, 0],
-    [AR, 2, 5, 5, NUMBER, 1, 99999],
-    [AR, 3, 10, 4, RAILWAY, 0, 0],
-    [AR, 4, 14, 3, NUMBER, 1, 999],
-    [AR, 5, 17, 6, NUMBER, 0, 100000],
-    [AR, 6, 23, 1, FLAG, 0, 0],
-    [AR, 7, 24, 3, NUMBER, 1, 999],
-    [AR, 8, 27, 1, FLAG, 0, 0],
-    [AR, 9, 28, 1, ROUNDING, 0, 0],
-    [AR, 10, 29, 3, FACTOR, 0, 0],
-    [AR, 11, 32, 8, FIRST_DAY, 0, 0],
-    [AR, 12, 40, 2, NUMBER, 1, 99],
-    [AR, 13, 42, 8, LAST_DAY, 0, 0],
-    [ME, 1, 1, 4, TRANSFEROR, 0, 0],
-    [ME, 2, 5, 5, NUMBER, 1, 99999],
-    [ME, 3, 10, 4, RAILWAY, 0, 0],
-    [ME, 4, 14, 240, TEXT, 0, 0],
-    [ME, 5, 254, 240, TEXT, 0, 0],
-    [ME, 6, 494, 240, TEXT, 0, 0],
-    [ME, 7, 734, 240, TEXT, 0, 0],
-    [ME, 8, 974, 240, TEXT, 0, 0],
-    [ME, 9, 1214, 8, FIRST_DAY, 0, 0],
-    [ME, 10, 1222, 2, NUMBER, 1, 99],
-    [ME, 11, 1224, 8, LAST_DAY, 0, 0],
-];
-
-// A row by its parts: `least` and `most` are the limits of a number.
 #[derive(Clone, Copy)]
 pub struct Row {
     pub field: u32,
     pub start: usize,
     pub length: usize,
-    pub kind: u32,
-    pub least: u32,
-    pub most: u32,
+    pub rule: Rule,
 }
 
+#[rattlefmt::skip]
+const LAYOUT: [Row; ROWS] = [
+    // CO
+    Row { field: 1, start: 1, length: 4, rule: Rule::Transferor },
+    Row { field: 2, start: 5, length: 5, rule: Rule::Number { least: 1, most: 99999 } },
+    Row { field: 3, start: 10, length: 4, rule: Rule::Railway },
+    Row { field: 4, start: 14, length: 100, rule: Rule::Text },
+    Row { field: 27, start: 114, length: 1, rule: Rule::FlagOrBlank },
+    Row { field: 28, start: 115, length: 2, rule: Rule::NumberOrBlank { least: 0, most: 99 } },
+    Row { field: 29, start: 117, length: 2, rule: Rule::MostPersons },
+    Row { field: 30, start: 119, length: 1, rule: Rule::Number { least: 0, most: 9 } },
+    Row { field: 31, start: 120, length: 1, rule: Rule::Flag },
+    Row { field: 32, start: 121, length: 1, rule: Rule::Flag },
+    Row { field: 33, start: 122, length: 1, rule: Rule::Flag },
+    Row { field: 34, start: 123, length: 1, rule: Rule::Flag },
+    Row { field: 35, start: 124, length: 1, rule: Rule::Flag },
+    Row { field: 36, start: 125, length: 1, rule: Rule::Flag },
+    Row { field: 37, start: 126, length: 1, rule: Rule::Flag },
+    Row { field: 38, start: 127, length: 1, rule: Rule::Flag },
+    Row { field: 39, start: 128, length: 6, rule: Rule::NumberOrBlank { least: 0, most: 100000 } },
+    Row { field: 40, start: 134, length: 1, rule: Rule::Rounding },
+    Row { field: 41, start: 135, length: 3, rule: Rule::Factor },
+    Row { field: 42, start: 138, length: 8, rule: Rule::FirstDay },
+    Row { field: 43, start: 146, length: 2, rule: Rule::Number { least: 1, most: 99 } },
+    Row { field: 44, start: 148, length: 8, rule: Rule::LastDay },
+    // RE
+    Row { field: 1, start: 1, length: 4, rule: Rule::Transferor },
+    Row { field: 2, start: 5, length: 3, rule: Rule::Number { least: 1, most: 999 } },
+    Row { field: 3, start: 8, length: 30, rule: Rule::Text },
+    Row { field: 4, start: 38, length: 30, rule: Rule::Text },
+    Row { field: 5, start: 68, length: 30, rule: Rule::Text },
+    Row { field: 6, start: 98, length: 30, rule: Rule::Text },
+    Row { field: 7, start: 128, length: 30, rule: Rule::Text },
+    Row { field: 8, start: 158, length: 265, rule: Rule::Text },
+    Row { field: 9, start: 423, length: 8, rule: Rule::FirstDay },
+    Row { field: 10, start: 431, length: 2, rule: Rule::Number { least: 1, most: 99 } },
+    Row { field: 11, start: 433, length: 8, rule: Rule::LastDay },
+    // AR
+    Row { field: 1, start: 1, length: 4, rule: Rule::Transferor },
+    Row { field: 2, start: 5, length: 5, rule: Rule::Number { least: 1, most: 99999 } },
+    Row { field: 3, start: 10, length: 4, rule: Rule::Railway },
+    Row { field: 4, start: 14, length: 3, rule: Rule::Number { least: 1, most: 999 } },
+    Row { field: 5, start: 17, length: 6, rule: Rule::Number { least: 0, most: 100000 } },
+    Row { field: 6, start: 23, length: 1, rule: Rule::Flag },
+    Row { field: 7, start: 24, length: 3, rule: Rule::Number { least: 1, most: 999 } },
+    Row { field: 8, start: 27, length: 1, rule: Rule::Flag },
+    Row { field: 9, start: 28, length: 1, rule: Rule::Rounding },
+    Row { field: 10, start: 29, length: 3, rule: Rule::Factor },
+    Row { field: 11, start: 32, length: 8, rule: Rule::FirstDay },
+    Row { field: 12, start: 40, length: 2, rule: Rule::Number { least: 1, most: 99 } },
+    Row { field: 13, start: 42, length: 8, rule: Rule::LastDay },
+    // ME
+    Row { field: 1, start: 1, length: 4, rule: Rule::Transferor },
+    Row { field: 2, start: 5, length: 5, rule: Rule::Number { least: 1, most: 99999 } },
+    Row { field: 3, start: 10, length: 4, rule: Rule::Railway },
+    Row { field: 4, start: 14, length: 240, rule: Rule::Text },
+    Row { field: 5, start: 254, length: 240, rule: Rule::Text },
+    Row { field: 6, start: 494, length: 240, rule: Rule::Text },
+    Row { field: 7, start: 734, length: 240, rule: Rule::Text },
+    Row { field: 8, start: 974, length: 240, rule: Rule::Text },
+    Row { field: 9, start: 1214, length: 8, rule: Rule::FirstDay },
+    Row { field: 10, start: 1222, length: 2, rule: Rule::Number { least: 1, most: 99 } },
+    Row { field: 11, start: 1224, length: 8, rule: Rule::LastDay },
+];
+
+// What stands for a row where there is none.
+const NO_ROW: Row = Row {
+    field: 0,
+    start: 0,
+    length: 0,
+    rule: Rule::Text,
+};
+
 // The table of rows. It is built where it is named, so a pass asks for it once and lends it on.
-pub fn all() -> [[u32; 7]; ROWS]
+pub fn all() -> [Row; ROWS]
     ensures { result ≡ layout }
 {
     LAYOUT
@@ -107,7 +114,7 @@ fn first_row(table: u32) -> usize
 }
 
 // The rows of a table among all.
-pub fn of_table(rows: &[[u32; 7]; ROWS], table: u32) -> &[[u32; 7]]
+pub fn of_table(rows: &[Row; ROWS], table: u32) -> &[Row]
     ensures { result.now ≡ take (first_row (table + 1) - first_row table) (drop (first_row table) rows.now) }
 {
     let every = &rows[..];
@@ -119,69 +126,51 @@ pub fn of_table(rows: &[[u32; 7]; ROWS], table: u32) -> &[[u32; 7]]
     &every[first..end]
 }
 
-fn named(e: [u32; 7]) -> Row
-    ensures { result ≡ as_row e }
-{
-    Row {
-        field: e[1],
-        start: e[2] as usize,
-        length: e[3] as usize,
-        kind: e[4],
-        least: e[5],
-        most: e[6],
-    }
-}
-
 // The field of the first row that a record breaks, 0 where it keeps them all.
-pub fn broken_field(rows: &[[u32; 7]], body: &[u8]) -> usize
-    ensures { result ≡ first_broken (obeys_row body.now) (map as_row rows.now) }
+pub fn broken_field(rows: &[Row], body: &[u8]) -> usize
+    ensures { result ≡ first_broken (obeys_row body.now) rows.now }
 {
-    let mut k = 0;
-    while k < rows.len() {
-        let row = named(rows[k]);
+    for row in rows {
         if !obeys(row, body) {
             return row.field as usize;
         }
-        k += 1;
     }
     0
 }
 
 // The row of a field among some rows, all zeros where there is none.
-pub fn of_field(rows: &[[u32; 7]], field: usize) -> Row
-    ensures { result ≡ row_with (λ (row : SpecRow). eqb row.field field) (map as_row rows.now) }
+pub fn of_field(rows: &[Row], field: usize) -> Row
+    ensures { result ≡ row_with (λ (row : SpecRow). eqb row.field field) rows.now }
 {
-    let mut k = 0;
-    while k < rows.len() {
-        let row = named(rows[k]);
+    for row in rows {
         if row.field as usize == field {
-            return row;
+            return *row;
         }
-        k += 1;
     }
-    named([0; 7])
+    NO_ROW
 }
 
 // Whether a record keeps the rule of a row.
-fn obeys(row: Row, body: &[u8]) -> bool
-    ensures { result ≡ obeys_row body.now row }
+#[tactic(auto, unfolding(crate::specs::Helpers::obeys_row, crate::specs::Rules::kept_beside, crate::specs::Rules::ruled))]
+fn obeys(row: &Row, body: &[u8]) -> bool
+    ensures { result ≡ obeys_row body.now row.now }
 {
     let start = row.start;
     let s = fields::field(body, start, row.length);
-    let kind = row.kind;
-    match kind {
-        TEXT => rules::text(s),
-        TRANSFEROR => super::company::is_transferor(s),
-        RAILWAY => super::company::is_company(s),
-        NUMBER => common::within(common::number(s), row.least, row.most),
-        NUMBER_OR_BLANK => rules::number_or_blank(s, row.least, row.most),
-        FLAG => rules::flag(common::byte_at(body, start)),
-        FLAG_OR_BLANK => rules::flag_or_blank(common::byte_at(body, start)),
-        MOST_PERSONS => rules::most_persons(fields::field(body, start.saturating_sub(2), 2), s),
-        ROUNDING => rules::rounding(common::byte_at(body, start)),
-        FACTOR => rules::factor(common::byte_at(body, start.saturating_sub(1)), s),
-        FIRST_DAY => rules::first_day(s),
-        LAST_DAY => rules::last_day(fields::field(body, start.saturating_sub(10), 8), s),
-        _ => false,
+    match row.rule {
+        Rule::Text => rules::text(s),
+        Rule::Transferor => super::company::is_transferor(s),
+        Rule::Railway => super::company::is_company(s),
+        Rule::Number { least, most } => common::within(common::number(s), least, most),
+        Rule::NumberOrBlank { least, most } => rules::number_or_blank(s, least, most),
+        Rule::Flag => rules::flag(common::byte_at(body, start)),
+        Rule::FlagOrBlank => rules::flag_or_blank(common::byte_at(body, start)),
+        Rule::MostPersons => {
+            rules::most_persons(fields::field(body, start.saturating_sub(2), 2), s)
+        }
+        Rule::Rounding => rules::rounding(common::byte_at(body, start)),
+        Rule::Factor => rules::factor(common::byte_at(body, start.saturating_sub(1)), s),
+        Rule::FirstDay => rules::first_day(s),
+        Rule::LastDay => rules::last_day(fields::field(body, start.saturating_sub(10), 8), s),
     }
 }

@@ -1,32 +1,25 @@
-// What the rule kinds ask of a field's bytes.
+// The rules of the fields, and what each asks of a field's bytes.
 ghost use Rattle.std.specs.Prelude.{◌≡◌};
 ghost use Rattle.common.specs.Lists.{every};
 ghost use Rattle.layout.specs.Bytes.{is_text, is_blank};
 ghost use Rattle.layout.specs.Rules.{is_flag, is_rounding, number_or_blank, flag_or_blank, most_persons, factor_rule, last_day_rule};
 
-pub const TEXT: u32 = 0;
-
-pub const TRANSFEROR: u32 = 1;
-
-pub const RAILWAY: u32 = 2;
-
-pub const NUMBER: u32 = 3;
-
-pub const NUMBER_OR_BLANK: u32 = 4;
-
-pub const FLAG: u32 = 5;
-
-pub const FLAG_OR_BLANK: u32 = 6;
-
-pub const MOST_PERSONS: u32 = 7;
-
-pub const ROUNDING: u32 = 8;
-
-pub const FACTOR: u32 = 9;
-
-pub const FIRST_DAY: u32 = 10;
-
-pub const LAST_DAY: u32 = 11;
+// What is asked of a field: a number is held to its limits.
+#[derive(Clone, Copy)]
+pub enum Rule {
+    Text,
+    Transferor,
+    Railway,
+    Number { least: u32, most: u32 },
+    NumberOrBlank { least: u32, most: u32 },
+    Flag,
+    FlagOrBlank,
+    MostPersons,
+    Rounding,
+    Factor,
+    FirstDay,
+    LastDay,
+}
 
 fn text_byte(b: u8) -> bool
     ensures { result ≡ is_text b }

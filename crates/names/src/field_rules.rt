@@ -1,36 +1,36 @@
 // What a field must be, in one sentence, with the figures of its row and of the fields that its rule looks back to.
 use super::words::{say, say_digits, say_quoted, sum};
+use layout::rows::Row;
+use layout::rules::Rule;
 use layout::{fields, rows, rules};
 use std::io;
 
 // The rule of a field of a record whose mark stands at a place of its bundle.
 pub fn say_rule(
     rt: &impl Print,
-    of_table: &[[u32; 7]],
+    of_table: &[Row],
     field: usize,
     body: &[u8],
     at: usize,
 ) -> io::Result<()> {
     let row = rows::of_field(of_table, field);
-    let kind = row.kind;
     say(rt, b"It must be ")?;
-    match kind {
-        rules::TEXT => say_text_rule(rt, body, row.start, row.length, at)?,
-        rules::TRANSFEROR => say(rt, b"four digits, 0001 to 9999")?,
-        rules::RAILWAY => say(
+    match row.rule {
+        Rule::Text => say_text_rule(rt, body, row.start, row.length, at)?,
+        Rule::Transferor => say(rt, b"four digits, 0001 to 9999")?,
+        Rule::Railway => say(
             rt,
             b"four digits, 0000 to 9999, where 0000 stands for all railways",
         )?,
-        rules::NUMBER => say_limits(rt, row.least, row.most, row.length)?,
-        rules::NUMBER_OR_BLANK => say_limits_or_blank(rt, row.least, row.most, row.length)?,
-        rules::FLAG => say(rt, b"Y or N, in capitals")?,
-        rules::FLAG_OR_BLANK => say(rt, b"Y or N, in capitals, or blank")?,
-        rules::MOST_PERSONS => say_most_persons_rule(rt, of_table, field, body)?,
-        rules::ROUNDING => say(rt, b"one of + - 0 N")?,
-        rules::FACTOR => say_factor_rule(rt, of_table, field, body)?,
-        rules::FIRST_DAY => say_day_rule(rt)?,
-        rules::LAST_DAY => say_last_day_rule(rt, of_table, field, body)?,
-        _ => say(rt, b"as the layout says")?,
+        Rule::Number { least, most } => say_limits(rt, least, most, row.length)?,
+        Rule::NumberOrBlank { least, most } => say_limits_or_blank(rt, least, most, row.length)?,
+        Rule::Flag => say(rt, b"Y or N, in capitals")?,
+        Rule::FlagOrBlank => say(rt, b"Y or N, in capitals, or blank")?,
+        Rule::MostPersons => say_most_persons_rule(rt, of_table, field, body)?,
+        Rule::Rounding => say(rt, b"one of + - 0 N")?,
+        Rule::Factor => say_factor_rule(rt, of_table, field, body)?,
+        Rule::FirstDay => say_day_rule(rt)?,
+        Rule::LastDay => say_last_day_rule(rt, of_table, field, body)?,
     }
     say(rt, b".\n")
 }
@@ -73,7 +73,7 @@ pub fn first_bad(text: &[u8]) -> usize {
 }
 
 // The field that a rule looks back to: its number, and its bytes.
-fn say_back(rt: &impl Print, of_table: &[[u32; 7]], back: usize, body: &[u8]) -> io::Result<()> {
+fn say_back(rt: &impl Print, of_table: &[Row], back: usize, body: &[u8]) -> io::Result<()> {
     let row = rows::of_field(of_table, back);
     print!(rt; " in field {back}, which is ")?;
     say_quoted(rt, fields::field(body, row.start, row.length))
@@ -81,7 +81,7 @@ fn say_back(rt: &impl Print, of_table: &[[u32; 7]], back: usize, body: &[u8]) ->
 
 fn say_most_persons_rule(
     rt: &impl Print,
-    of_table: &[[u32; 7]],
+    of_table: &[Row],
     field: usize,
     body: &[u8],
 ) -> io::Result<()> {
@@ -90,12 +90,7 @@ fn say_most_persons_rule(
     say_back(rt, of_table, field.saturating_sub(1), body)
 }
 
-fn say_factor_rule(
-    rt: &impl Print,
-    of_table: &[[u32; 7]],
-    field: usize,
-    body: &[u8],
-) -> io::Result<()> {
+fn say_factor_rule(rt: &impl Print, of_table: &[Row], field: usize, body: &[u8]) -> io::Result<()> {
     let rounding = rows::of_field(of_table, field.saturating_sub(1));
     let least = if common::byte_at(body, rounding.start) == b'N' {
         0
@@ -117,7 +112,7 @@ fn say_day_rule(rt: &impl Print) -> io::Result<()> {
 
 fn say_last_day_rule(
     rt: &impl Print,
-    of_table: &[[u32; 7]],
+    of_table: &[Row],
     field: usize,
     body: &[u8],
 ) -> io::Result<()> {
