@@ -20,19 +20,21 @@ use Rattle.bundle.specs.Records.{Rec, no_rec, records_of}
 use Rattle.bundle.specs.Helpers.{places_of, body_at}
 use Rattle.bundle.proofs.Here.{Stands, at_place_lem}
 use Rattle.choice.specs.Choice.{is_of, is_own, is_general, is_either, is_valid, first_with, choice_of}
-use Rattle.choice.specs.Helpers.{at_place, whose_of, fit_of, if_at, noted_at}
+use Rattle.choice.specs.Helpers.{at_place, whose_of, by_day, fit_of, noted_at}
 use Rattle.choice.specs.declared.Choice.{Choice}
 use Rattle.choice.specs.declared.Choice.TheVariants.{At, NotThatDay, Nothing}
+use Rattle.choice.specs.declared.Role.{Role}
+use Rattle.choice.specs.declared.Role.TheVariants.{Other, General, Own, OffItsDays}
 use Rattle.choice.specs.declared.Wanted.{Wanted}
 
 -- A RECORD HELD AGAINST WHAT IS WANTED, test by test
 module _ (w : Wanted) (r : Rec) where
-  pub by_table : (r.table ≡ w.table → ⊥) → 0 ≡ whose_of w r
+  pub by_table : (r.table ≡ w.table → ⊥) → Other ≡ whose_of w r
   unfolding whose_of is_of
   by_table n = rw (ne_eqb r.table w.table n)
 
   module _ (t : r.table ≡ w.table) {o : ℕ} (e : o ≡ value_of (number_of (offer_of r.body))) where
-    pub by_offer : (o ≡ w.offer → ⊥) → 0 ≡ whose_of w r
+    pub by_offer : (o ≡ w.offer → ⊥) → Other ≡ whose_of w r
     unfolding whose_of is_of
     by_offer n = rw (eq-eqb r.table w.table t, ← e, ne_eqb o w.offer n)
 
@@ -41,51 +43,62 @@ module _ (w : Wanted) (r : Rec) where
       unfolding is_of
       is_of_lem = f ∙ rw (eq-eqb r.table w.table t, ← e, eq-eqb o w.offer p, t)
 
-      pub by_code : k ≡ false → 0 ≡ whose_of w r
+      pub by_code : k ≡ false → Other ≡ whose_of w r
       unfolding whose_of
       by_code n = rw (← is_of_lem, n)
 
       module _ (q : k ≡ true) {c : ℕ} (g : c ≡ company_of (railway_of r.body)) where
-        pub by_own : c ≡ w.railway → 2 ≡ whose_of w r
+        pub by_own : c ≡ w.railway → Own ≡ whose_of w r
         unfolding whose_of
         by_own n = rw (← is_of_lem, q, ← g, eq-eqb c w.railway n)
 
-        pub by_all : (c ≡ w.railway → ⊥) → {b : Bool} → b ≡ is_all_railways (railway_of r.body) → cond b 1 0 ≡ whose_of w r
+        pub by_all : (c ≡ w.railway → ⊥) → {b : Bool} → b ≡ is_all_railways (railway_of r.body) → cond b General Other ≡ whose_of w r
         unfolding whose_of
         by_all n h = rw (← is_of_lem, q, ← g, ne_eqb c w.railway n, h)
 
 -- and against the day
-module _ (w : Wanted) (r : Rec) {o : ℕ} (e : o ≡ whose_of w r) where
-  pub by_other : o ≡ 0 → o ≡ fit_of w r
+day_other : (o : Role) (v : Bool) → o ≡ Other → Other ≡ by_day v o
+day_other o v z = rw z refl
+
+day_kept : (o : Role) (b : Bool) → (o ≡ Other → ⊥) → cond b o OffItsDays ≡ by_day b o
+day_kept Other b n = absurd (n refl)
+day_kept General b n = refl
+day_kept Own b n = refl
+day_kept OffItsDays true n = refl
+day_kept OffItsDays false n = refl
+
+module _ (w : Wanted) (r : Rec) {o : Role} (e : o ≡ whose_of w r) where
+  pub by_other : o ≡ Other → Other ≡ fit_of w r
   unfolding fit_of
-  by_other z = rw (← e, eq-eqb o 0 z)
+  by_other z = rw (← e) (day_other o (is_valid w r) z)
 
-  pub by_day : (o ≡ 0 → ⊥) → {b : Bool} → b ≡ is_valid w r → cond b o 3 ≡ fit_of w r
+  pub by_valid : (o ≡ Other → ⊥) → {b : Bool} → b ≡ is_valid w r → cond b o OffItsDays ≡ fit_of w r
   unfolding fit_of
-  by_day n h = rw (← e, ne_eqb o 0 n, ← h)
+  by_valid n {b} h = rw (← e, ← h) (day_kept o b n)
 
--- and what its outcome says: 2 is the railway's own, and of the others 1 is one for all railways, both valid, and 3 is one of either that is not
-abbrev whose : Bool → Bool → Bool → ℕ
-whose a b d = cond a (cond b 2 (cond d 1 0)) 0
+-- and what its outcome says: the railway's own, or of the others one for all railways, both valid, or one of either that is not
+abbrev whose : Bool → Bool → Bool → Role
+whose a b d = cond a (cond b Own (cond d General Other)) Other
 
-abbrev outcome : Bool → Bool → Bool → Bool → ℕ
-outcome a b d v = cond (eqb (whose a b d) 0) (whose a b d) (cond v (whose a b d) 3)
+abbrev outcome : Bool → Bool → Bool → Bool → Role
+outcome a b d v = by_day v (whose a b d)
 
-own_by : (a b d v : Bool) → outcome a b d v ≡ 2 → ((a && b) && v) ≡ true
+own_by : (a b d v : Bool) → outcome a b d v ≡ Own → ((a && b) && v) ≡ true
 own_by true true d true e = refl
-own_by true true d false e = absurd (omega arith)
-own_by true false true true e = absurd (omega arith)
-own_by true false true false e = absurd (omega arith)
-own_by true false false v e = absurd (omega arith)
-own_by false b d v e = absurd (omega arith)
+own_by true true d false e = cc
+own_by true false true true e = cc
+own_by true false true false e = cc
+own_by true false false v e = cc
+own_by false b d v e = cc
 
-not_own_by : (a b d v : Bool) → (outcome a b d v ≡ 2 → ⊥) → ((a && b) && v) ≡ false
+not_own_by : (a b d v : Bool) → (outcome a b d v ≡ Own → ⊥) → ((a && b) && v) ≡ false
 not_own_by true true d true f = absurd (f refl)
 not_own_by true true d false f = refl
 not_own_by true false d v f = refl
 not_own_by false b d v f = refl
 
-other_by : (a b d v : Bool) → (outcome a b d v ≡ 2 → ⊥) → outcome a b d v ≡ cond ((a && d) && v) 1 (cond ((a && b) || (a && d)) 3 0)
+other_by : (a b d v : Bool) → (outcome a b d v ≡ Own → ⊥)
+    → outcome a b d v ≡ cond ((a && d) && v) General (cond ((a && b) || (a && d)) OffItsDays Other)
 other_by true true d true f = absurd (f refl)
 other_by true true true false f = refl
 other_by true true false false f = refl
@@ -94,7 +107,7 @@ other_by true false true false f = refl
 other_by true false false v f = refl
 other_by false b d v f = refl
 
-module _ (w : Wanted) (r : Rec) {f : ℕ} (e : f ≡ fit_of w r) where
+module _ (w : Wanted) (r : Rec) {f : Role} (e : f ≡ fit_of w r) where
   abbrev of_it : Bool
   of_it = is_of w r
 
@@ -104,45 +117,17 @@ module _ (w : Wanted) (r : Rec) {f : ℕ} (e : f ≡ fit_of w r) where
   abbrev all_railways_lem : Bool
   all_railways_lem = is_all_railways (railway_of r.body)
 
-  pub fits_own : f ≡ 2 → (is_own w r && is_valid w r) ≡ true
+  pub fits_own : f ≡ Own → (is_own w r && is_valid w r) ≡ true
   unfolding fit_of whose_of
   fits_own h = own_by of_it own_railway all_railways_lem (is_valid w r) (sym e ∙ h)
 
-  pub fits_not : (f ≡ 2 → ⊥) → (is_own w r && is_valid w r) ≡ false
+  pub fits_not : (f ≡ Own → ⊥) → (is_own w r && is_valid w r) ≡ false
   unfolding fit_of whose_of
   fits_not n = not_own_by of_it own_railway all_railways_lem (is_valid w r) (λ h. n (e ∙ h))
 
-  pub fits_other : (f ≡ 2 → ⊥) → f ≡ cond (is_general w r && is_valid w r) 1 (cond (is_either w r) 3 0)
+  pub fits_other : (f ≡ Own → ⊥) → f ≡ cond (is_general w r && is_valid w r) General (cond (is_either w r) OffItsDays Other)
   unfolding fit_of whose_of
   fits_other n = e ∙ other_by of_it own_railway all_railways_lem (is_valid w r) (λ h. n (e ∙ h))
-
--- NOTED: a place stays,
-module _ (v : Choice) (f place : ℕ) where
-  pub still_nothing : f ≡ 0 → v ≡ noted_at v f place
-  unfolding noted_at
-  still_nothing z = rw (eq-eqb f 0 z)
-
-  pub still_at : (f ≡ 0 → ⊥) → (p : ℕ) → v ≡ At p → At p ≡ noted_at v f place
-  unfolding noted_at
-  still_at n p e = rw (ne_eqb f 0 n, e)
-
-  -- and else it is this one's, if it is valid
-  no_place : ((p : ℕ) → v ≡ At p → ⊥) → (other : Choice) → if_at v other ≡ other
-  no_place x other = go v x
-    where
-      go : (v : Choice) → ((p : ℕ) → v ≡ At p → ⊥) → if_at v other ≡ other
-      go (At p) x = absurd (x p refl)
-      go NotThatDay x = refl
-      go Nothing x = refl
-
-  module _ (n : f ≡ 0 → ⊥) (x : (p : ℕ) → v ≡ At p → ⊥) where
-    pub now_at : f ≡ 1 → At place ≡ noted_at v f place
-    unfolding noted_at
-    now_at e = rw (ne_eqb f 0 n, no_place x _, eq-eqb f 1 e)
-
-    pub off_its_days : (f ≡ 1 → ⊥) → NotThatDay ≡ noted_at v f place
-    unfolding noted_at
-    off_its_days e = rw (ne_eqb f 0 n, no_place x _, ne_eqb f 1 e)
 
 -- A SEARCH with one more: it found one before, or this is the first
 next_found : (p : ℕ → Bool) (j : ℕ) (b x : Bool) → ltb (least p j) j ≡ b → p j ≡ x
@@ -180,9 +165,8 @@ module _ (s : List ℕ) (w : Wanted) where
   standing_start = rw (start general, start either)
 
   -- one record more
-  module _ (p j : ℕ) {t start-at next : ℕ} (e : Stands s p j t start-at next) {f : ℕ} (g : f ≡ cond (general j) 1 (cond (either j) 3 0)) where
+  module _ (p j : ℕ) {t start-at next : ℕ} (e : Stands s p j t start-at next) {f : Role} (g : f ≡ cond (general j) General (cond (either j) OffItsDays Other)) where
     pub remembers : noted_at (standing j) f p ≡ standing (j + 1)
-    unfolding noted_at
     remembers = go (ltb (least general j) j) (general j) (ltb (least either j) j) (either j) refl refl refl refl
       where
         go : (b x c y : Bool) → ltb (least general j) j ≡ b → general j ≡ x → ltb (least either j) j ≡ c → either j ≡ y

@@ -26,65 +26,64 @@ pub enum Choice {
     Nothing,
 }
 
-const OTHER: u8 = 0;
-
-const GENERAL: u8 = 1;
-
-const OWN: u8 = 2;
-
-const OFF_ITS_DAYS: u8 = 3;
+// What a record is to a leg: another's, one for all railways, the railway's own, or one of these two that is not valid that day.
+#[derive(Clone, Copy)]
+enum Role {
+    Other,
+    General,
+    Own,
+    OffItsDays,
+}
 
 // Whether a record is the railway's own, one for all railways, or another.
-fn whose(wanted: Wanted, table: u32, body: &[u8]) -> u8
+fn whose(wanted: Wanted, table: u32, body: &[u8]) -> Role
     ensures { result ≡ whose_of wanted (rec table body.now) }
 {
     if table != wanted.table {
-        return OTHER;
+        return Role::Other;
     }
     if layout::fields::offer_number(body) != wanted.offer {
-        return OTHER;
+        return Role::Other;
     }
     if !layout::fields::code_fits(table, wanted.code, body) {
-        return OTHER;
+        return Role::Other;
     }
     let railway = layout::fields::railway(body);
     if layout::company::company_of(railway) == wanted.railway {
-        return OWN;
+        return Role::Own;
     }
     if layout::company::is_all_railways(railway) {
-        return GENERAL;
+        return Role::General;
     }
-    OTHER
+    Role::Other
 }
 
 // The same, and whether it is valid that day if it is one of these two.
-fn fit(wanted: Wanted, table: u32, body: &[u8]) -> u8
+fn fit(wanted: Wanted, table: u32, body: &[u8]) -> Role
     ensures { result ≡ fit_of wanted (rec table body.now) }
 {
     let whose = whose(wanted, table, body);
-    if whose == OTHER {
-        return whose;
+    if let Role::Other = whose {
+        return Role::Other;
     }
     if layout::fields::holds_day(wanted.table, body, wanted.day) {
         return whose;
     }
-    OFF_ITS_DAYS
+    Role::OffItsDays
 }
 
 // What is chosen as long as no own record is met, once the record at a place was looked at.
-fn noted(before: Choice, f: u8, place: usize) -> Choice
+fn noted(before: Choice, f: Role, place: usize) -> Choice
     ensures { result ≡ noted_at before f place }
 {
-    if f == OTHER {
+    if let Choice::At(_) = before {
         return before;
     }
-    if let Choice::At(first) = before {
-        return Choice::At(first);
+    match f {
+        Role::Other => before,
+        Role::General => Choice::At(place),
+        _ => Choice::NotThatDay,
     }
-    if f == GENERAL {
-        return Choice::At(place);
-    }
-    Choice::NotThatDay
 }
 
 pub fn choose(bundle: &[u8], wanted: Wanted) -> Choice
@@ -98,7 +97,7 @@ pub fn choose(bundle: &[u8], wanted: Wanted) -> Choice
             return chosen;
         };
         let f = fit(wanted, table, &bundle[start..next]);
-        if f == OWN {
+        if let Role::Own = f {
             return Choice::At(at);
         }
         chosen = noted(chosen, f, at);

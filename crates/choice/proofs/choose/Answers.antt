@@ -38,12 +38,12 @@ slice_bounds-fit-end c =
     let found : Stands (bundle-of) c.loop-table.at c.loop-table.invariant.0 c.in-Whole.table c.in-Whole.start c.in-Whole.next = stands _ _ _ c.loop-table.invariant.1 c.step_at-here.ensures c.in-Whole.is in
     found.inside
 
-pub returns-then-f-eq-OWN : goal.returns-then-f-eq-OWN
-returns-then-f-eq-OWN c =
+pub returns-in-Own : goal.returns-in-Own
+returns-in-Own c =
     let bundle-of : List ℕ = c.args.bundle.now in
     let found : Stands (bundle-of) c.loop-table.at c.loop-table.invariant.0 c.in-Whole.table c.in-Whole.start c.in-Whole.next = stands _ _ _ c.loop-table.invariant.1 c.step_at-here.ensures c.in-Whole.is in
     let i = c.loop-table.invariant in
-    own_met _ _ _ i.0 (found) i.2 (rw found.at (fits_own _ _ c.fit-f.ensures c.if-f-eq-OWN.true))
+    own_met _ _ _ i.0 (found) i.2 (rw found.at (fits_own _ _ c.fit-f.ensures c.in-Own.is))
 
 pub loop-table-smaller : goal.loop-table-smaller
 loop-table-smaller c =
@@ -56,7 +56,7 @@ loop-table-preserved c =
     let bundle-of : List ℕ = c.args.bundle.now in
     let found : Stands (bundle-of) c.loop-table.at c.loop-table.invariant.0 c.in-Whole.table c.in-Whole.start c.in-Whole.next = stands _ _ _ c.loop-table.invariant.1 c.step_at-here.ensures c.in-Whole.is in
     let i = c.loop-table.invariant in
-    let n = c.if-f-eq-OWN.false in (
+    let n = c.in_default-f.not-Own in (
       i.0 + 1,
       found.then,
       more _ i.0 i.2 (rw found.at (fits_not _ _ c.fit-f.ensures n)),
