@@ -2,7 +2,7 @@
 -- Assumes nothing.
 use Prim.Native.Nat.{ℕ, zero, suc, ◌+◌, ◌≤◌, ◌<◌, zero-le, suc-le-suc}
 use mathlib.Core.Path.{◌≡◌, refl, sym, ◌∙◌}
-use mathlib.Core.Bool.{Bool, true, false, cond, not, ◌&&◌, ◌||◌, and-true}
+use mathlib.Core.Bool.{Bool, true, false, cond, not, ◌&&◌, and-true}
 use mathlib.Core.List.{List, [], ◌∷◌}
 use native.Mathlib.Nat.{le_of_suc-le-suc, not-suc-le-zero}
 use native.Mathlib.Numerals.{add-one}
@@ -147,19 +147,6 @@ module _ (cs : List ℕ) (k : ℕ) (l : k < length cs) where
   unfolding cards_differ
   differ_step = rw (add-one, drop-cons cs k 0 l)
 
-  pub stands_step : (card : ℕ) → any (eqb card) (drop k cs) ≡ (eqb card (get_or cs k 0) || any (eqb card) (drop (k + 1) cs))
-  unfolding any
-  stands_step card = rw (add-one, drop-cons cs k 0 l)
-
-  pub count_step : length (only is_given (drop k cs)) ≡ cond (is_given (get_or cs k 0)) (suc (length (only is_given (drop (k + 1) cs)))) (length (only is_given (drop (k + 1) cs)))
-  unfolding only
-  count_step = rw (add-one, drop-cons cs k 0 l) (go (is_given (get_or cs k 0)))
-    where
-      go : (b : Bool) → length (cond b (get_or cs k 0 ∷ only is_given (drop (suc k) cs)) (only is_given (drop (suc k) cs)))
-          ≡ cond b (suc (length (only is_given (drop (suc k) cs)))) (length (only is_given (drop (suc k) cs)))
-      go true = refl
-      go false = refl
-
 -- and behind the last slot
 pub none_behind : (cs : List ℕ) (k : ℕ) → length cs ≤ k → drop k cs ≡ []
 none_behind cs k l = drop_of_length-le cs l
@@ -179,12 +166,15 @@ further_slots cards =
     at (suc (suc zero)) l = refl
     at (suc (suc (suc k))) l = absurd (omega arith)
 
-pub turned : (c : ℕ) → eqb c 0 ≡ eqb 0 c
-turned c = go (eqb c 0) refl
+pub swapped : (c d : ℕ) → eqb c d ≡ eqb d c
+swapped c d = go (eqb c d) refl
   where
-    go : (t : Bool) → eqb c 0 ≡ t → t ≡ eqb 0 c
-    go true e = sym (eq-eqb 0 c (sym (eqb-true c 0 e)))
-    go false e = sym (ne_eqb 0 c (λ h. never (eq-eqb c 0 (sym h)) e))
+    go : (t : Bool) → eqb c d ≡ t → t ≡ eqb d c
+    go true e = sym (eq-eqb d c (sym (eqb-true c d e)))
+    go false e = sym (ne_eqb d c (λ h. never (eq-eqb c d (sym h)) e))
+
+pub turned : (c : ℕ) → eqb c 0 ≡ eqb 0 c
+turned c = swapped c 0
 
 none_given : (xs : List ℕ) → every (eqb 0) xs ≡ true → only is_given xs ≡ []
 unfolding every only

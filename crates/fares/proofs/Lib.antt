@@ -10,6 +10,7 @@ pub mod RecordsApplied
 pub mod PermittedMeaning
 pub mod LegLaws
 pub mod LegMeaning
+pub mod Chains
 pub mod CardSlots
 pub mod QuestionLimits
 pub mod FareLaws

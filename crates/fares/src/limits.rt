@@ -1,7 +1,8 @@
 // The limits of a question.
-ghost use Rattle.std.specs.Prelude.{◌≡◌, ◌≤◌, eqb, length, drop};
-ghost use Rattle.common.specs.Lists.{every, any, only, first_of};
-ghost use Rattle.fares.specs.Question.{between, no_leg, leg_in_limits, is_given, cards_in_limits, cards_differ, in_limits};
+ghost use Rattle.std.specs.Prelude.{◌≡◌, ◌==◌, eqb, not, length, drop, count_by};
+ghost use Rattle.std.specs.List.{list_all};
+ghost use Rattle.common.specs.Lists.{every, only, first_of};
+ghost use Rattle.fares.specs.Question.{between, leg_in_limits, is_given, cards_in_limits, cards_differ, in_limits};
 ghost use Rattle.fares.specs.Helpers.{trip_in_limits};
 ghost use Rattle.fares.specs.Reductions.{part_bound};
 
@@ -25,47 +26,24 @@ pub fn leg_in_limits(leg: Leg) -> bool
     leg.fare <= 999999
 }
 
-fn legs_in_limits(legs: [Leg; 8], count: usize) -> bool
-    requires { count ≤ 8 }
-    ensures { result ≡ every leg_in_limits (first_of no_leg count legs) }
+fn legs_in_limits(legs: &[Leg]) -> bool
+    ensures { result ≡ list_all leg_in_limits legs.now }
 {
-    let mut k = 0;
-    while k < count {
-        let leg = legs[k];
-        if !leg_in_limits(leg) {
-            return false;
-        }
-        k += 1;
-    }
-    true
+    legs.iter().all(|leg| leg_in_limits(*leg))
+}
+
+// Whether none of some slots is used.
+fn none_given(slots: &[u32]) -> bool
+    ensures { result ≡ list_all (λ card. card == 0) slots.now }
+{
+    slots.iter().all(|card| *card == 0)
 }
 
 // Whether one card is given at most: no slot but the first is used.
 fn one_at_most(cards: [u32; 4]) -> bool
     ensures { result ≡ every (eqb 0) (drop 1 (first_of 0 4 cards)) }
 {
-    if cards[1] != 0 {
-        return false;
-    }
-    if cards[2] != 0 {
-        return false;
-    }
-    cards[3] == 0
-}
-
-// Whether no slot from one on is used.
-fn none_from(cards: [u32; 4], first: usize) -> bool
-    requires { first ≤ 4 }
-    ensures { result ≡ every (eqb 0) (drop first (first_of 0 4 cards)) }
-{
-    let mut k = first;
-    while k < 4 {
-        if cards[k] != 0 {
-            return false;
-        }
-        k += 1;
-    }
-    true
+    none_given(&cards[1..])
 }
 
 pub fn cards_in_limits(cards: [u32; 4]) -> bool
@@ -74,16 +52,13 @@ pub fn cards_in_limits(cards: [u32; 4]) -> bool
     if one_at_most(cards) {
         return cards[0] <= 999;
     }
-    let mut k = 0;
-    while k < 4 {
-        let card = cards[k];
-        if card == 0 {
-            return none_from(cards, k + 1);
+    for (k, card) in cards.iter().enumerate() {
+        if *card == 0 {
+            return none_given(&cards[k + 1..]);
         }
-        if 999 < card {
+        if 999 < *card {
             return false;
         }
-        k += 1;
     }
     true
 }
@@ -114,23 +89,7 @@ pub fn in_limits(q: Question) -> bool
     if !cards_in_limits(cards) {
         return false;
     }
-    let legs = q.legs;
-    legs_in_limits(legs, q.count as usize)
-}
-
-// Whether a card stands in a slot from one on.
-fn stands_from(cards: [u32; 4], card: u32, first: usize) -> bool
-    requires { first ≤ 4 }
-    ensures { result ≡ any (eqb card) (drop first (first_of 0 4 cards)) }
-{
-    let mut k = first;
-    while k < 4 {
-        if cards[k] == card {
-            return true;
-        }
-        k += 1;
-    }
-    false
+    legs_in_limits(&q.legs[..q.count as usize])
 }
 
 // Whether no card is given twice.
@@ -140,31 +99,18 @@ pub fn cards_differ(cards: [u32; 4]) -> bool
     if one_at_most(cards) {
         return true;
     }
-    let mut k = 0;
-    while k < 4 {
-        let card = cards[k];
-        if card != 0 {
-            if stands_from(cards, card, k + 1) {
-                return false;
-            }
+    for (k, card) in cards.iter().enumerate() {
+        if *card != 0 && cards[k + 1..].contains(card) {
+            return false;
         }
-        k += 1;
     }
     true
 }
 
-fn card_count(cards: [u32; 4]) -> u32
-    ensures { result ≡ length (only is_given (first_of 0 4 cards)) }
+fn card_count(cards: &[u32]) -> usize
+    ensures { result ≡ count_by (λ card. not (card == 0)) cards.now }
 {
-    let mut count = 0;
-    let mut k = 0;
-    while k < 4 {
-        if cards[k] != 0 {
-            count += 1;
-        }
-        k += 1;
-    }
-    count
+    cards.iter().filter(|card| **card != 0).count()
 }
 
 // No part of a question with such cards is above this.
@@ -174,5 +120,5 @@ pub fn part_bound(cards: [u32; 4]) -> u32
     if one_at_most(cards) {
         return 99 * (999999 + 998 * 2);
     }
-    99 * (999999 + 998 * (1 + card_count(cards)))
+    99 * (999999 + 998 * (1 + card_count(&cards) as u32))
 }

@@ -1,18 +1,19 @@
 -- `fares::limits::cards_differ` meets its contract. The loop's invariant: the slots that are left decide.
 -- Assumes nothing.
-use Prim.Native.Nat.{◌+◌}
-use mathlib.Core.Path.{◌≡◌, refl, sym, ◌∙◌}
-use mathlib.Core.Bool.{not, ◌&&◌}
-use native.Mathlib.Omega.{arith}
-use lib.Dec.{eqb}
-use lib.ListN.{drop, get_or}
-use borrow.Author.Tests.{eq-eqb, ne_eqb}
+use Rattle.std.proofs.Common.{◌≡◌, ℕ, ◌+◌, ◌-◌, ◌≤◌, List, eqb, length, take, drop, sym, ap, ◌∙◌, rules, get_or, arith, eq-eqb, ne_eqb}
+use Rattle.std.specs.List.{list_any}
 use Rattle.common.specs.Lists.{any, first_of}
-use Rattle.common.proofs.Lists.{first_length, first_at}
-use Rattle.fares.specs.Question.{is_given, cards_differ}
-use Rattle.fares.proofs.CardSlots.{differ_step, none_behind, one_differs}
+use Rattle.fares.specs.Question.{cards_differ}
+use Rattle.fares.proofs.CardSlots.{differ_step, none_behind, one_differs, swapped}
+use Rattle.fares.proofs.Chains.{any_is, slots_are, behind}
 use Rattle.fares.proofs.limits.cards_differ.Goals as goal
-use Rattle.fares.proofs.limits.cards_differ.Goals.{then-card-ne0+else-stands_from, else-card-ne0}
+use Rattle.fares.proofs.limits.cards_differ.Goals.{else-card-ne0-via-then-card-ne0+else-contains, else-card-ne0-via-else-card-ne0}
+
+-- in a slot behind slot k
+stands_behind : (card k : ℕ) (cards : List ℕ) → length cards ≤ (k + 1) + (4 - (k + 1))
+    → list_any (λ x. eqb x card) (take (4 - (k + 1)) (drop (k + 1) cards)) ≡ any (eqb card) (drop (k + 1) cards)
+stands_behind card k cards l =
+    any_is (λ x. eqb x card) (eqb card) (λ x. swapped x card) (take (4 - (k + 1)) (drop (k + 1) cards)) ∙ ap (any (eqb card)) (behind (k + 1) (4 - (k + 1)) cards l)
 
 pub returns-then-one_at_most : goal.returns-then-one_at_most
 unfolding first_of
@@ -20,28 +21,33 @@ returns-then-one_at_most c =
     let cards = c.args.cards in
     sym (one_differs (get_or cards 0 0) (drop 1 (first_of 0 4 cards)) (sym c.one_at_most.ensures ∙ c.if-one_at_most.true))
 
-pub loop-k-init : goal.loop-k-init
-loop-k-init c = (omega arith, refl)
-
-pub returns-then-stands_from : goal.returns-then-stands_from
-returns-then-stands_from c =
-    let head : let cards = c.args.cards in let card = get_or cards c.loop-k.k 0 in let rest = drop (c.loop-k.k + 1) (first_of 0 4 cards) in cards_differ (first_of 0 4 cards) ≡ (not (is_given card && any (eqb card) rest) && cards_differ rest) = let cards = c.args.cards in
-    let t = c.loop-k-test.true in
-    c.loop-k.invariant.1 ∙ (differ_step (first_of 0 4 cards) c.loop-k.k (rw first_length t) ∙ rw (first_at 0 4 cards c.loop-k.k t)) in
-    sym (head ∙ rw (ne_eqb _ 0 c.if-card-ne0.true, ← c.stands_from.ensures, c.if-stands_from.true))
+pub returns-then-contains : goal.returns-then-contains
+returns-then-contains c =
+    let cards = c.args.cards in
+    let k = c.loop-k.k in
+    let card = get_or cards k 0 in
+    let long : length cards ≡ 4 = search rules in
+    let head = c.loop-k.invariant ∙ differ_step cards k (omega (arith, long)) in
+    let stands : c.contains.result ≡ any (eqb card) (drop (k + 1) cards) = c.contains.ensures.value ∙ stands_behind card k cards (omega (arith, long)) in
+    sym (rw (slots_are 0 4 cards long) (head ∙ rw (ne_eqb card 0 c.if-card-ne0.true, ← stands, c.if-contains.true)))
 
 pub loop-k-preserved : goal.loop-k-preserved
 loop-k-preserved c =
-    let head : let cards = c.args.cards in let card = get_or cards c.loop-k.k 0 in let rest = drop (c.loop-k.k + 1) (first_of 0 4 cards) in cards_differ (first_of 0 4 cards) ≡ (not (is_given card && any (eqb card) rest) && cards_differ rest) = let cards = c.args.cards in
-    let t = c.loop-k-test.true in
-    c.loop-k.invariant.1 ∙ (differ_step (first_of 0 4 cards) c.loop-k.k (rw first_length t) ∙ rw (first_at 0 4 cards c.loop-k.k t)) in (
-      omega arith,
-      head ∙ elim c.if-card-ne0.branch [
-        | then-card-ne0+else-stands_from w ↦ rw (ne_eqb _ 0 w.if-card-ne0.true, ← w.stands_from.ensures, w.if-stands_from.false)
-        | else-card-ne0 w ↦ rw (eq-eqb _ 0 w.if-card-ne0.false)
-      ],
-    )
+    let cards = c.args.cards in
+    let k = c.loop-k.k in
+    let card = get_or cards k 0 in
+    let long : length cards ≡ 4 = search rules in
+    let head = c.loop-k.invariant ∙ differ_step cards k (omega (arith, long)) in
+    head ∙ elim c.else-card-ne0.branch [
+      | else-card-ne0-via-then-card-ne0+else-contains w ↦
+          let stands : w.contains.result ≡ any (eqb card) (drop (k + 1) cards) = w.contains.ensures.value ∙ stands_behind card k cards (omega (arith, long)) in
+          rw (ne_eqb card 0 w.if-card-ne0.true, ← stands, w.if-contains.false)
+      | else-card-ne0-via-else-card-ne0 w ↦ rw (eq-eqb card 0 w.if-card-ne0.false)
+    ]
 
 pub returns : goal.returns
 unfolding cards_differ
-returns c = sym (c.loop-k.invariant.1 ∙ rw (none_behind (first_of 0 4 c.args.cards) c.loop-k.k (rw first_length (omega arith))))
+returns c =
+    let cards = c.args.cards in
+    let long : length cards ≡ 4 = search rules in
+    sym (rw (slots_are 0 4 cards long) (c.loop-k.invariant ∙ rw (none_behind cards c.loop-k.k (omega (arith, long, c.loop-k-test.false)))))

@@ -1,14 +1,8 @@
 -- `fares::limits::cards_in_limits` meets its contract. The loop's invariant: the slots that are left decide.
 -- Assumes nothing.
-use Prim.Native.Nat.{◌≤◌, ◌-◌}
-use mathlib.Core.Path.{◌≡◌}
-use lib.ListN.{drop}
-use Rattle.common.specs.Lists.{first_of}
+use Rattle.std.proofs.Common.{◌≡◌, drop}
 use Rattle.fares.specs.Question.{cards_in_limits}
 use Rattle.fares.proofs.limits.cards_in_limits.Given as goal
 
 abbrev pub invariant-loop-k : goal.invariant-loop-k
-invariant-loop-k l = (l.k ≤ 4) × (cards_in_limits (first_of 0 4 l.cards) ≡ cards_in_limits (drop l.k (first_of 0 4 l.cards)))
-
-abbrev pub decreases-loop-k : goal.decreases-loop-k
-decreases-loop-k l = 4 - l.k
+invariant-loop-k l = cards_in_limits l.card-items ≡ cards_in_limits (drop l.k l.card-items)

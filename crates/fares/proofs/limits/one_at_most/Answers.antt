@@ -1,21 +1,14 @@
 -- `fares::limits::one_at_most` meets its contract.
 -- Assumes nothing.
-use mathlib.Core.Path.{sym}
-use mathlib.Core.Bool.{and-true}
-use lib.ListN.{get_or}
-use borrow.Author.Tests.{eq-eqb, ne_eqb}
+use Rattle.std.proofs.Common.{◌≡◌, eqb, length, take, drop, ◌∙◌, ap, rules, arith}
 use Rattle.common.specs.Lists.{every}
-use Rattle.fares.proofs.CardSlots.{further_slots, turned}
+use Rattle.fares.proofs.CardSlots.{turned}
+use Rattle.fares.proofs.Chains.{all_is, slots_are, behind}
 use Rattle.fares.proofs.limits.one_at_most.Goals as goal
 
-pub returns-then-cards-ne0 : goal.returns-then-cards-ne0
-unfolding every
-returns-then-cards-ne0 c = rw (further_slots c.args.cards, ne_eqb 0 _ (λ e. c.if-cards-ne0.true (sym e)))
-
-pub returns-then-cards-ne0-2 : goal.returns-then-cards-ne0-2
-unfolding every
-returns-then-cards-ne0-2 c = rw (further_slots c.args.cards, eq-eqb 0 _ (sym c.if-cards-ne0.false), ne_eqb 0 _ (λ e. c.if-cards-ne0-2.true (sym e)))
-
 pub returns : goal.returns
-unfolding every
-returns c = rw (further_slots c.args.cards, eq-eqb 0 _ (sym c.if-cards-ne0.false), eq-eqb 0 _ (sym c.if-cards-ne0-2.false), and-true) (turned (get_or c.args.cards 3 0))
+returns c =
+    let long : length c.args.cards ≡ 4 = search rules in
+    let cards = c.args.cards in
+    rw (slots_are 0 4 cards long)
+    (c.none_given.ensures ∙ (all_is (λ card. eqb card 0) (eqb 0) turned (take 3 (drop 1 cards)) ∙ ap (every (eqb 0)) (behind 1 3 cards (omega (arith, long)))))
