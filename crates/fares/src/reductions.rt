@@ -3,6 +3,7 @@ ghost use Rattle.std.specs.Prelude.{◌≡◌, ◌-◌, ◌≤◌};
 ghost use Rattle.fares.specs.Reductions.{reduce_by};
 ghost use Rattle.fares.specs.Rounding.{unit};
 
+use super::rounding::Exact;
 use layout::fields::Grant;
 
 // What is left of the whole after a discount.
@@ -19,5 +20,9 @@ pub fn reduce(amount: u64, by: Grant) -> u64
     requires { (amount ≤ 10000000000) × (by.factor ≤ 999) }
     ensures { result ≡ reduce_by amount by }
 {
-    super::rounding::round(by.mode, amount * kept(by.discount), by.factor as u64)
+    Exact {
+        n: amount * kept(by.discount),
+        factor: by.factor as u64,
+    }
+    .rounded(by.mode)
 }

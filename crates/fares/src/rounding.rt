@@ -4,51 +4,63 @@ ghost use Rattle.fares.specs.Rounding.{upwards, downwards, nearest, rounded};
 
 const UNIT: u64 = 100000;
 
-// The least multiple of the factor that is not below it.
-fn round_up(n: u64, factor: u64) -> u64
-    requires { (n ≤ 1000000000000000) × (factor ≤ 999) }
-    ensures { result ≡ upwards n factor }
-{
-    if factor == 0 {
-        return 0;
-    }
-    let step = factor * UNIT;
-    (n + (step - 1)) / step * factor
+// An exact amount, and the factor in cents of which it is rounded to a multiple.
+#[derive(Clone, Copy)]
+pub struct Exact {
+    pub n: u64,
+    pub factor: u64,
+    ghost in_range: { n ≤ 1000000000000000 },
+    ghost three_digits: { factor ≤ 999 },
 }
 
-// The greatest multiple of the factor that is not above it.
-fn round_down(n: u64, factor: u64) -> u64
-    requires { (n ≤ 1000000000000000) × (factor ≤ 999) }
-    ensures { result ≡ downwards n factor }
-{
-    if factor == 0 {
-        return 0;
+impl Exact {
+    // The least multiple of the factor that is not below it.
+    fn up(self) -> u64
+        ensures { result ≡ upwards self.n self.factor }
+    {
+        if self.factor == 0 {
+            return 0;
+        }
+        let step = self.factor * UNIT;
+        (self.n + (step - 1)) / step * self.factor
     }
-    let step = factor * UNIT;
-    n / step * factor
-}
 
-// The nearest multiple of the factor, halves up.
-fn round_near(n: u64, factor: u64) -> u64
-    requires { (n ≤ 1000000000000000) × (factor ≤ 999) }
-    ensures { result ≡ nearest n factor }
-{
-    if factor == 0 {
-        return 0;
+    // The greatest multiple of the factor that is not above it.
+    fn down(self) -> u64
+        ensures { result ≡ downwards self.n self.factor }
+    {
+        if self.factor == 0 {
+            return 0;
+        }
+        let step = self.factor * UNIT;
+        self.n / step * self.factor
     }
-    let step = factor * UNIT;
-    (2 * n + step) / (2 * step) * factor
-}
 
-pub fn round(mode: u8, n: u64, factor: u64) -> u64
-    requires { (n ≤ 1000000000000000) × (factor ≤ 999) }
-    ensures { result ≡ rounded mode n factor }
-{
-    match mode {
-        b'+' => round_up(n, factor),
-        b'-' => round_down(n, factor),
-        b'0' => round_near(n, factor),
-        b'N' => round_near(n, 1),
-        _ => 0,
+    // The nearest multiple of the factor, halves up.
+    fn near(self) -> u64
+        ensures { result ≡ nearest self.n self.factor }
+    {
+        if self.factor == 0 {
+            return 0;
+        }
+        let step = self.factor * UNIT;
+        (2 * self.n + step) / (2 * step) * self.factor
+    }
+
+    // As a record's rounding says, which is a byte.
+    pub fn rounded(self, mode: u8) -> u64
+        ensures { result ≡ rounded mode self.n self.factor }
+    {
+        match mode {
+            b'+' => self.up(),
+            b'-' => self.down(),
+            b'0' => self.near(),
+            b'N' => Exact {
+                n: self.n,
+                factor: 1,
+            }
+            .near(),
+            _ => 0,
+        }
     }
 }

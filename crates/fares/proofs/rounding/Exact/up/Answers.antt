@@ -1,15 +1,15 @@
--- `fares::rounding::round_up` meets its contract.
+-- `fares::rounding::Exact::up` meets its contract.
 -- Assumes nothing.
 use mathlib.Core.Path.{sym, refl}
 use native.Mathlib.Nat.{mul-zero}
 use native.Mathlib.Omega.{arith}
 use Rattle.fares.specs.Rounding.{upwards}
 use Rattle.fares.proofs.Fit.{quotient_fits}
-use Rattle.fares.proofs.rounding.round_up.Goals as goal
+use Rattle.fares.proofs.rounding.Exact.up.Goals as goal
 
-pub returns-then-factor-eq0 : goal.returns-then-factor-eq0
+pub returns-then-self-eq0 : goal.returns-then-self-eq0
 unfolding upwards
-returns-then-factor-eq0 c = rw c.if-factor-eq0.true (sym (mul-zero _))
+returns-then-self-eq0 c = rw c.if-self-eq0.true (sym (mul-zero _))
 
 pub overflow_mul-result : goal.overflow_mul-result
 unfolding upwards
