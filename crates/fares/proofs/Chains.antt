@@ -30,7 +30,7 @@ slots_are d (suc n) [] e = absurd (omega (arith, e))
 slots_are d (suc n) (x ∷ xs) e = ap (x ∷◌) (slots_are d n xs (omega (arith, e)))
 
 -- what stands behind a slot
-take_all : {A : Type 0} (n : ℕ) (xs : List A) → length xs ≤ n → take n xs ≡ xs
+pub take_all : {A : Type 0} (n : ℕ) (xs : List A) → length xs ≤ n → take n xs ≡ xs
 take_all zero [] l = refl
 take_all zero (x ∷ xs) l = absurd (not-suc-le-zero l)
 take_all (suc n) [] l = refl

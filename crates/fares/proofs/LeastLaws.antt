@@ -1,6 +1,6 @@
 -- Laws of the least of some amounts: it is not above any of them, and it is one of them.
 -- Assumes nothing.
-use Prim.Native.Nat.{ℕ, zero, suc, ◌≤◌, ◌<◌, zero-le, suc-le-suc}
+use Prim.Native.Nat.{ℕ, zero, suc, min, ◌≤◌, ◌<◌, zero-le, suc-le-suc}
 use mathlib.Core.Path.{◌≡◌, refl, ◌∙◌}
 use mathlib.Core.Bool.{Bool, true, false, cond}
 use mathlib.Core.List.{List, [], ◌∷◌, map}
@@ -19,6 +19,13 @@ lesser_is a b = go (leb a b) refl
     go : (t : Bool) → leb a b ≡ t → (cond t a b ≤ a) × (cond t a b ≤ b) × ((cond t a b ≡ a) ⊎ (cond t a b ≡ b))
     go true e = (le_refl a, leb-true a b e, inl refl)
     go false e = (omega (arith, leb-false a b e), le_refl b, inr refl)
+
+pub least_is : (a b : ℕ) → min a b ≡ lesser a b
+least_is a b = go (leb a b) refl
+  where
+    go : (t : Bool) → leb a b ≡ t → min a b ≡ cond t a b
+    go true e = let l = leb-true a b e in omega arith
+    go false e = let l = leb-false a b e in omega arith
 
 -- from a first amount on: not above it,
 pub least_first : (a : ℕ) (bs : List ℕ) → least_from a bs ≤ a

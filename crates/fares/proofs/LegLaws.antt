@@ -1,14 +1,14 @@
 -- What a leg's records and checks come to: the laws that the functions over a leg cite.
 -- Assumes nothing.
 use Prim.Native.Nat.{ℕ, ◌+◌, ◌≤◌, ◌<◌, zero-le, suc-le-suc}
-use mathlib.Core.Path.{◌≡◌, refl, sym, ◌∙◌, ap, ap₂}
+use mathlib.Core.Path.{◌≡◌, refl, sym, ◌∙◌, ap₂}
 use mathlib.Core.Bool.{Bool, true, false, cond}
 use mathlib.Core.Logic.{◌⊎◌, ⊎_elim}
 use mathlib.Core.List.{List, [], ◌∷◌, ◌++◌, map, flat_map, append-nil, append_assoc}
 use native.Mathlib.Nat.{le_trans}
 use native.Mathlib.Numerals.{add-one}
 use native.Mathlib.Omega.{arith}
-use lib.ListN.{length, get_or, drop, set, replicate, length-map, length-append, drop_of_length-le}
+use lib.ListN.{length, get_or, drop, length-map, length-append, drop_of_length-le}
 use lib.Seq.{drop-cons}
 use Rattle.common.specs.declared.reasons.Reason.TheVariants.{NoConditions, DayOutside}
 use Rattle.common.specs.Lists.{only}
@@ -28,12 +28,12 @@ use Rattle.fares.specs.Question.{is_given, card_slots, cards_of}
 use Rattle.fares.specs.Reductions.{conditions_grant, reduce_by, part_bound, greatest_part}
 use Rattle.fares.specs.Cards.{after_cards}
 use Rattle.fares.specs.Legs.{wanted_for, conditions_for, found, bodies, body_of, card_for, cards_for, applied_for, leg_checks, part_by, part_of}
-use Rattle.fares.specs.Helpers.{padded, place_of, bodies_at, cards_by, places_in, answer_of, answer_by}
+use Rattle.fares.specs.Helpers.{place_of, bodies_at, cards_by, places_in, answer_of, answer_by}
 use Rattle.fares.specs.declared.Leg.{Leg}
 use Rattle.fares.specs.declared.Question.{Question}
-use Rattle.fares.specs.declared.records.Cards.{Cards}
+use Rattle.arrayvec.specs.ArrayVec.{ArrayVec}
 use Rattle.fares.proofs.StepLaws.{conditions_small, step_small, greater_is, bound_grows, part_small}
-use Rattle.fares.proofs.LegCards.{padded_front, padded_next, after_small}
+use Rattle.fares.proofs.LegCards.{after_small}
 
 -- no question's bound is above the greatest
 few_cards : (q : Question) → length (cards_of q) ≤ 4
@@ -114,62 +114,42 @@ module _ (s : List ℕ) (q : Question) (leg : Leg) where
   abbrev places : List ℕ → List ℕ
   places cs = map (place_of s) (flat_map per_card cs)
 
-  pub record Looked (k count : ℕ) (at : List ℕ) : Type 0 where
-    pub seen : List ℕ
-    pub counted : count ≡ length seen
-    pub kept : at ≡ padded 0 seen
-    pub few : length seen ≤ k
-    pub yet : seen ++ places (drop k (card_slots q)) ≡ places (card_slots q)
+  abbrev pub Looked : ℕ → List ℕ → Type 0
+  Looked k seen = (length seen ≤ k) × (seen ++ places (drop k (card_slots q)) ≡ places (card_slots q))
 
-  pub looked_first : Looked 0 0 (replicate 4 0)
-  looked_first = record { seen = []; counted = refl; kept = refl; few = zero-le; yet = refl }
+  pub looked_first : Looked 0 []
+  looked_first = (zero-le, refl)
 
   slots_long : length (card_slots q) ≡ 4
   slots_long = first_length 0 4 q.cards
 
-  module _ {k count : ℕ} {at : List ℕ} (w : Looked k count at) (l : k < 4) where
+  module _ (k : ℕ) (seen : List ℕ) (w : Looked k seen) (l : k < 4) where
     abbrev card : ℕ
     card = get_or q.cards k 0
 
     -- the slot at hand
     to_come : {v : Choice} → v ≡ card_for R q leg card
-        → w.seen ++ (map (place_of s) (found v ++ flat_map per_card (drop (k + 1) (card_slots q)))) ≡ places (card_slots q)
+        → seen ++ (map (place_of s) (found v ++ flat_map per_card (drop (k + 1) (card_slots q)))) ≡ places (card_slots q)
     unfolding flat_map
-    to_come e = rw (e, add-one, ← first_at 0 4 q.cards k l) (rw (drop-cons (card_slots q) k 0 (omega (arith, slots_long))) at w.yet)
+    to_come e = rw (e, add-one, ← first_at 0 4 q.cards k l) (rw (drop-cons (card_slots q) k 0 (omega (arith, slots_long))) at w.1)
 
     yet_found : (v : Choice) {p : ℕ} → At p ≡ at_place s v → v ≡ card_for R q leg card
-        → (w.seen ++ (p ∷ [])) ++ places (drop (k + 1) (card_slots q)) ≡ places (card_slots q)
+        → (seen ++ (p ∷ [])) ++ places (drop (k + 1) (card_slots q)) ≡ places (card_slots q)
     yet_found (At i) {p} e f =
         let g : place_of s i ≡ p = cc in
-        append_assoc w.seen (p ∷ []) _ ∙ (rw (← g) (to_come f))
+        append_assoc seen (p ∷ []) _ ∙ (rw (← g) (to_come f))
     yet_found NotThatDay e f = let z : ◌≡◌ {A = ℕ} 0 1 = cc in absurd (omega arith)
     yet_found Nothing e f = let z : ◌≡◌ {A = ℕ} 0 1 = cc in absurd (omega arith)
 
-    pub looked_found : {p : ℕ} → At p ≡ at_place s (card_for R q leg card) → Looked (k + 1) (count + 1) (set at count p)
-    looked_found {p} e =
-        record {
-          seen = w.seen ++ (p ∷ []);
-          counted = omega (arith, length-append w.seen (p ∷ []), w.counted);
-          kept = rw (w.kept, w.counted) (padded_next 0 w.seen p (omega (arith, w.few)));
-          few = omega (arith, length-append w.seen (p ∷ []), w.few);
-          yet = yet_found (card_for R q leg card) e refl;
-        }
+    pub looked_found : {p : ℕ} → At p ≡ at_place s (card_for R q leg card) → Looked (k + 1) (seen ++ (p ∷ []))
+    looked_found {p} e = (omega (arith, length-append seen (p ∷ []), w.0), yet_found (card_for R q leg card) e refl)
 
-    pub looked_none : (card_for R q leg card ≡ NotThatDay) ⊎ (card_for R q leg card ≡ Nothing) → Looked (k + 1) count at
-    looked_none h =
-        record {
-          seen = w.seen;
-          counted = w.counted;
-          kept = w.kept;
-          few = omega (arith, w.few);
-          yet = ⊎_elim (λ e. to_come (sym e)) (λ e. to_come (sym e)) h;
-        }
+    pub looked_none : (card_for R q leg card ≡ NotThatDay) ⊎ (card_for R q leg card ≡ Nothing) → Looked (k + 1) seen
+    looked_none h = (omega (arith, w.0), ⊎_elim (λ e. to_come (sym e)) (λ e. to_come (sym e)) h)
 
-  pub looked_last : {k count : ℕ} {at : List ℕ} → Looked k count at → 4 ≤ k → record { count = count; at = at } ≡ cards_by (map (place_of s) (cards_for R q leg))
-  unfolding cards_for cards_by flat_map
-  looked_last {k = k} w l =
-      let e : w.seen ≡ places (card_slots q) = sym (append-nil w.seen) ∙ (rw (drop_of_length-le (card_slots q) {i = k} (omega (arith, slots_long))) at w.yet) in
-      λ j. record { count = (w.counted ∙ ap length e) j; at = (w.kept ∙ ap (padded 0) e) j }
+  pub looked_last : (k : ℕ) (seen : List ℕ) → Looked k seen → 4 ≤ k → seen ≡ map (place_of s) (cards_for R q leg)
+  unfolding cards_for flat_map
+  looked_last k seen w l = sym (append-nil seen) ∙ (rw (drop_of_length-le (card_slots q) {i = k} (omega (arith, slots_long))) at w.1)
 
   applied_bodies : (co : List ℕ) → bodies_at s (map (place_of s) (applied_for R q leg co)) ≡ bodies R (applied_for R q leg co)
   unfolding cards_for
@@ -200,8 +180,8 @@ module _ (s : List ℕ) (q : Question) (leg : Leg) where
     off_day e = rw (is_off_day_lem s conditions e)
 
     -- or the answer by its place and the places of the cards' records
-    pub by_places : {i : ℕ} {co : List ℕ} {cards : Cards} → conditions ≡ At i → co ≡ (get_or R i no_rec).body
+    pub by_places : {i : ℕ} {co : List ℕ} {cards : ArrayVec ℕ} → conditions ≡ At i → co ≡ (get_or R i no_rec).body
         → cards ≡ cards_by (map (place_of s) (applied_for R q leg (body_of R conditions))) → answer_by q k leg co (bodies_at s (places_in cards)) ≡ answer_of R q k leg
-    unfolding first_fault answer_of answer_by cards_by
+    unfolding first_fault answer_of answer_by
     by_places e f g =
-        rw (f, g, padded_front 0 (map (place_of s) (applied_for R q leg (body_of R conditions))), applied_bodies (body_of R conditions), e)
+        rw (f, g, applied_bodies (body_of R conditions), e)

@@ -1,10 +1,11 @@
 -- What the code's helpers answer: limits but for cards and legs, places in the bundle in place of numbers of records, and the price of one leg and of an
 -- accepted bundle. Nothing here has to be believed: no promise and no answer of a call is stated with it.
 -- Assumes nothing.
-use Rattle.std.specs.Prelude.{ℕ, ◌-◌, Bool, ◌&&◌, List, ◌++◌, map, leb, length, take, get_or, replicate, Result}
+use Rattle.std.specs.Prelude.{ℕ, Bool, ◌&&◌, List, map, leb, get_or, Result}
 use Rattle.common.specs.Lists.{only}
 use Rattle.common.specs.declared.Refusal.{Refusal}
 use Rattle.common.specs.Checks.{Finding, unless, first_fault}
+use Rattle.arrayvec.specs.ArrayVec.{ArrayVec}
 use Rattle.layout.specs.Dates.{is_day}
 use Rattle.layout.specs.declared.fields.Grant.{Grant}
 use Rattle.bundle.specs.Records.{Rec, records_of}
@@ -19,25 +20,19 @@ use Rattle.fares.specs.Fare.{parts_of, price_checks, quoted}
 use Rattle.fares.specs.declared.Leg.{Leg}
 use Rattle.fares.specs.declared.Question.{Question}
 use Rattle.fares.specs.declared.Quote.{Quote}
-use Rattle.fares.specs.declared.records.Cards.{Cards}
 use Rattle.fares.specs.declared.records.LegRecords.{LegRecords}
 use Rattle.fares.specs.declared.cards.Step.{Step}
-use Rattle.fares.specs.declared.cards.Row.{Row}
 
 -- the limits of what a question says besides its cards and legs
 unfoldable pub trip_in_limits : ℕ → ℕ → ℕ → ℕ → Bool
 trip_in_limits offer day persons count = between 1 99999 offer && (is_day day && (between 1 99 persons && between 1 8 count))
 
--- four places, those behind a list the same
-abbrev pub padded : {A : Type 0} → A → List A → List A
-padded d xs = xs ++ replicate (4 - length xs) d
+-- the AR records that apply as the code keeps them, by where their marks stand; and the bytes of records by their places
+abbrev pub cards_by : List ℕ → ArrayVec ℕ
+cards_by places = record { items = places }
 
--- the AR records that apply as the code keeps them: how many, and where their marks stand; and the bytes of records by their places
-unfoldable pub cards_by : List ℕ → Cards
-cards_by places = record { count = length places; at = padded 0 places }
-
-abbrev pub places_in : Cards → List ℕ
-places_in c = take c.count c.at
+abbrev pub places_in : ArrayVec ℕ → List ℕ
+places_in c = c.items
 
 abbrev pub bodies_at : List ℕ → List ℕ → List (List ℕ)
 bodies_at s places = map (body_at s) places
@@ -52,7 +47,7 @@ placed s q leg =
     let c : Choice = conditions_for R q leg in
     record { conditions = at_place s c; cards = cards_by (map (place_of s) (applied_for R q leg (body_of R c))) }
 
--- an AR that is applied together with others: where it stands in their row, and what it grants; and the row as the code keeps it
+-- an AR that is applied together with others: where it stands in their row, and what it grants
 abbrev pub step_of : List ℕ → Step
 step_of ar = record { rank = rank_of ar; grant = card_grants ar }
 
@@ -64,12 +59,6 @@ grant_of x = x.grant
 
 abbrev pub no_step : Step
 no_step = record { rank = 0; grant = record { discount = 0; mode = 0; factor = 0 } }
-
-unfoldable pub row_by : List Step → Row
-row_by xs = record { count = length xs; steps = padded no_step xs }
-
-abbrev pub steps_in : Row → List Step
-steps_in row = take row.count row.steps
 
 abbrev pub factor_fits : Step → Bool
 factor_fits x = leb x.grant.factor 999

@@ -1,15 +1,16 @@
 // What the cards of a leg make of its amount: the records that are applied together in their order, each other one alone, and the least of these.
-ghost use Rattle.std.specs.Prelude.{◌≡◌, true, ◌++◌, map, ◌+◌, ◌≤◌, ◌<◌, length, take, drop};
+ghost use Rattle.std.specs.Prelude.{◌≡◌, true, map, ◌≤◌, ◌<◌, length};
+ghost use Rattle.arrayvec.specs.ArrayVec.{array_vec_len};
 ghost use Rattle.common.specs.Lists.{every};
 ghost use Rattle.common.specs.Rising.{insert as inserted};
-ghost use Rattle.bundle.specs.Helpers.{body_at};
 ghost use Rattle.fares.specs.Reductions.{card_grants, reduce_by, reduce_all};
 ghost use Rattle.fares.specs.Cards.{together_of, least_from, after_cards};
-ghost use Rattle.fares.specs.Helpers.{places_in, bodies_at, step_of, rank_in, grant_of, row_by, steps_in, factor_fits, alone_from};
+ghost use Rattle.fares.specs.Helpers.{bodies_at, step_of, rank_in, grant_of, factor_fits, alone_from};
 
-use super::records::Cards;
 use super::reductions::reduce;
+use arrayvec::ArrayVec;
 use layout::fields::Grant;
+use std::mem;
 
 // A record that is applied together with others: its rating and then its code say where it stands among them.
 #[derive(Clone, Copy)]
@@ -18,11 +19,18 @@ pub struct Step {
     pub grant: Grant,
 }
 
-// Those that are applied together, in rising order.
-#[derive(Clone, Copy)]
-pub struct Row {
-    pub count: usize,
-    pub steps: [Step; 4],
+// What a row holds where it has no step.
+impl Default for Step {
+    fn default() -> Self {
+        Step {
+            rank: 0,
+            grant: Grant {
+                discount: 0,
+                mode: 0,
+                factor: 0,
+            },
+        }
+    }
 }
 
 fn step_of(ar: &[u8]) -> Step
@@ -35,117 +43,85 @@ fn step_of(ar: &[u8]) -> Step
     }
 }
 
-// One more among the first steps, which rise: at each place the lower one stays, and the other goes on.
-fn insert(steps: [Step; 4], count: usize, step: Step) -> [Step; 4]
-    requires { (count < 4) × (length steps ≡ 4) }
-    ensures { result ≡ inserted rank_in step (take count steps) ++ drop (count + 1) steps }
+// One more in a row that rises: at each place the lower one stays, and the other goes on.
+fn insert(row: &mut ArrayVec<Step, 4>, step: Step)
+    requires { array_vec_len row.old < 4 }
+    ensures { row.new.items ≡ inserted rank_in step row.old.items }
 {
-    let mut row = steps;
     let mut carried = step;
-    let mut k = 0;
-    while k < count {
-        let there = row[k];
+    for there in row.as_mut_slice() {
         if carried.rank < there.rank {
-            row[k] = carried;
-            carried = there;
+            carried = mem::replace(there, carried);
         }
-        k += 1;
     }
-    row[count] = carried;
-    row
+    row.push(carried);
 }
 
 // The records that are applied together.
-fn together(bundle: &[u8], cards: Cards) -> Row
-    requires { cards.count ≤ 4 }
-    ensures { result ≡ row_by (map step_of (together_of (bodies_at bundle.now (places_in cards)))) }
+fn together(bundle: &[u8], places: &[usize]) -> ArrayVec<Step, 4>
+    requires { length places.now ≤ 4 }
+    ensures { result.items ≡ map step_of (together_of (bodies_at bundle.now places.now)) }
 {
-    let at = cards.at;
-    let none = Step {
-        rank: 0,
-        grant: Grant {
-            discount: 0,
-            mode: 0,
-            factor: 0,
-        },
-    };
-    let mut steps = [none; 4];
-    let mut count = 0;
-    let mut k = 0;
-    while k < cards.count {
-        let ar = bundle::walk::body_at(bundle, at[k]);
+    let mut row = ArrayVec::new();
+    for place in places {
+        let ar = bundle::walk::body_at(bundle, *place);
         if layout::fields::is_cumulative(ar) {
-            let longer = insert(steps, count, step_of(ar));
-            steps = longer;
-            count += 1;
+            insert(&mut row, step_of(ar));
         }
-        k += 1;
     }
-    Row { count, steps }
+    row
 }
 
 // One after the other, each rounded by itself.
-fn after_row(row: Row, amount: u64) -> u64
-    requires { (row.count ≤ 4) × (length row.steps ≡ 4) × (amount ≤ 1000000000) × (every factor_fits (steps_in row) ≡ true) }
-    ensures { result ≡ reduce_all amount (map grant_of (steps_in row)) }
+fn after_row(row: &[Step], amount: u64) -> u64
+    requires { (length row.now ≤ 4) × (amount ≤ 1000000000) × (every factor_fits row.now ≡ true) }
+    ensures { result ≡ reduce_all amount (map grant_of row.now) }
 {
-    let steps = row.steps;
     let mut left = amount;
-    let mut k = 0;
-    while k < row.count {
-        let step = steps[k];
+    for step in row {
         left = reduce(left, step.grant);
-        k += 1;
     }
     left
 }
 
-// The AR at a place alone.
-fn after_alone(bundle: &[u8], place: usize, amount: u64) -> u64
+// An AR alone.
+fn after_alone(ar: &[u8], amount: u64) -> u64
     requires { amount ≤ 1000000000 }
-    ensures { result ≡ reduce_by amount (card_grants (body_at bundle.now place)) }
+    ensures { result ≡ reduce_by amount (card_grants ar.now) }
 {
-    let ar = bundle::walk::body_at(bundle, place);
     reduce(amount, layout::fields::card_grant(ar))
 }
 
 // The least of an amount and of what each record leaves that is applied alone.
-fn least_alone(bundle: &[u8], cards: Cards, amount: u64, first: u64) -> u64
-    requires { (cards.count ≤ 4) × (amount ≤ 1000000000) }
-    ensures { result ≡ least_from first (alone_from amount (bodies_at bundle.now (places_in cards))) }
+fn least_alone(bundle: &[u8], places: &[usize], amount: u64, first: u64) -> u64
+    requires { amount ≤ 1000000000 }
+    ensures { result ≡ least_from first (alone_from amount (bodies_at bundle.now places.now)) }
 {
-    let at = cards.at;
     let mut least = first;
-    let mut k = 0;
-    while k < cards.count {
-        let place = at[k];
-        let ar = bundle::walk::body_at(bundle, place);
+    for place in places {
+        let ar = bundle::walk::body_at(bundle, *place);
         if !layout::fields::is_cumulative(ar) {
-            let left = after_alone(bundle, place, amount);
-            if left < least {
-                least = left;
-            }
+            least = least.min(after_alone(ar, amount));
         }
-        k += 1;
     }
     least
 }
 
 // The amount per person after the cards: the least of what is permitted, and as it is where no record applies.
-pub fn after_cards(bundle: &[u8], cards: Cards, amount: u64) -> u64
-    requires { (cards.count ≤ 4) × (amount ≤ 1000000000) }
-    ensures { result ≡ after_cards amount (bodies_at bundle.now (places_in cards)) }
+pub fn after_cards(bundle: &[u8], places: &[usize], amount: u64) -> u64
+    requires { (length places.now ≤ 4) × (amount ≤ 1000000000) }
+    ensures { result ≡ after_cards amount (bodies_at bundle.now places.now) }
 {
-    if cards.count == 0 {
+    if places.is_empty() {
         return amount;
     }
-    let at = cards.at;
-    if cards.count == 1 {
-        return after_alone(bundle, at[0], amount);
+    let alone = after_alone(bundle::walk::body_at(bundle, places[0]), amount);
+    if places.len() == 1 {
+        return alone;
     }
-    let row = together(bundle, cards);
-    if row.count == 0 {
-        return least_alone(bundle, cards, amount, after_alone(bundle, at[0], amount));
+    let row = together(bundle, places);
+    if row.is_empty() {
+        return least_alone(bundle, places, amount, alone);
     }
-    least_alone(bundle, cards, amount, after_row(row, amount))
+    least_alone(bundle, places, amount, after_row(row.as_slice(), amount))
 }

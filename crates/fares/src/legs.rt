@@ -52,7 +52,7 @@ fn price_by<'a>(
     co: &'a [u8],
     cards: Cards,
 ) -> Result<u32, Refusal>
-    requires { (leg.fare ≤ 999999) × (q.persons ≤ 99) × (cards.count ≤ 4) }
+    requires { (leg.fare ≤ 999999) × (q.persons ≤ 99) }
     ensures { result ≡ answer_by q k leg co.now (bodies_at bundle.now (places_in cards)) }
 {
     let persons = q.persons;
@@ -64,7 +64,7 @@ fn price_by<'a>(
         return Err(common::refuse(Reason::ConditionUnread, k, unread as usize));
     }
     let reduced = reduce(leg.fare as u64, layout::fields::conditions_grant(co));
-    let amount = after_cards(bundle, cards, reduced);
+    let amount = after_cards(bundle, cards.as_slice(), reduced);
     Ok((amount * (persons as u64)) as u32)
 }
 

@@ -6,6 +6,3 @@ use Rattle.fares.proofs.cards.after_alone.Goals as goal
 
 pub reduce-requires : goal.reduce-requires
 reduce-requires c = (omega (arith, c.requires), rw c.card_grant.ensures (card_small _))
-
-pub returns : goal.returns
-returns c = rw (← c.body_at-ar.ensures, ← c.card_grant.ensures) c.reduce.ensures

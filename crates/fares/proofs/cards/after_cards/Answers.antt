@@ -1,53 +1,53 @@
 -- `fares::cards::after_cards` meets its contract.
 -- Assumes nothing.
 use Prim.Native.Nat.{ℕ, ◌≤◌, ◌<◌}
-use mathlib.Core.Path.{◌≡◌, sym, ◌∙◌, ap}
-use mathlib.Core.List.{List, map}
+use mathlib.Core.Path.{◌≡◌, sym, ◌∙◌}
+use mathlib.Core.List.{List}
 use native.Mathlib.Omega.{arith}
-use lib.ListN.{length, get_or, take}
-use borrow.Author.Rules.{rules}
+use lib.ListN.{length, get_or}
+use borrow.Author.Tests.{eqb-true}
 use Rattle.bundle.specs.Helpers.{body_at}
 use Rattle.fares.specs.Cards.{together_of}
-use Rattle.fares.specs.Helpers.{places_in, bodies_at}
-use Rattle.fares.proofs.LegCards.{card_bodies_long, card_body_at, one_body, none_applies, one_choice, all_alone, some_together, row_count_lem, row_grants, row_fits, row_few, row_long}
+use Rattle.fares.specs.Helpers.{bodies_at}
+use Rattle.fares.proofs.LegCards.{card_bodies_long, card_body_at, no_bodies, one_body, some_by, none_applies, one_choice, all_alone, some_together, row_count_lem, row_grants, row_fits}
 use Rattle.fares.proofs.cards.after_cards.Goals as goal
 
-pub returns-then-cards-eq0 : goal.returns-then-cards-eq0
-returns-then-cards-eq0 c =
-    let ars : List (List ℕ) = bodies_at c.args.bundle.now (places_in c.args.cards) in
-    none_applies c.args.amount (ars) (ap (λ n. map (body_at c.args.bundle.now) (take n c.args.cards.at)) c.if-cards-eq0.true)
-
-pub returns-then-cards-eq1 : goal.returns-then-cards-eq1
-returns-then-cards-eq1 c =
-    let long : length c.args.cards.at ≡ 4 = search rules in
+pub returns-then-is_empty : goal.returns-then-is_empty
+returns-then-is_empty c =
     let a = c.args in
-    c.after_alone.ensures
-    ∙ rw (one_body a.bundle.now a.cards c.if-cards-eq1.true (long)) (sym (one_choice a.amount (body_at a.bundle.now (get_or a.cards.at 0 0))))
+    none_applies a.amount (bodies_at a.bundle.now a.places.now) (no_bodies a.bundle.now a.places.now (eqb-true _ 0 (sym c.is_empty.ensures ∙ c.if-is_empty.true)))
 
-pub returns-then-row-eq0 : goal.returns-then-row-eq0
-returns-then-row-eq0 c =
-    let long : length c.args.cards.at ≡ 4 = search rules in
-    let ars : List (List ℕ) = bodies_at c.args.bundle.now (places_in c.args.cards) in
-    let as_many : length (ars) ≡ c.args.cards.count = card_bodies_long c.args.bundle.now c.args.cards c.requires.0 (long) in
+pub returns-then-places-eq1 : goal.returns-then-places-eq1
+returns-then-places-eq1 c =
     let a = c.args in
-    let k : 0 < a.cards.count = omega (arith, c.if-cards-eq0.false) in
-    let e : length (together_of (ars)) ≡ 0 = sym (row_count_lem a.amount (ars) c.together-row.ensures) ∙ c.if-row-eq0.true in
-    let first = card_body_at a.bundle.now a.cards c.requires.0 (long) 0 k in
-    c.least_alone.ensures ∙ rw (c.after_alone-then-row-eq0.ensures, ← first) (all_alone a.amount (ars) e (omega (arith, as_many)))
+    c.after_alone-alone.ensures ∙ rw (one_body a.bundle.now a.places.now c.if-places-eq1.true, c.body_at.ensures) (sym (one_choice a.amount (body_at a.bundle.now (get_or a.places.now 0 0))))
+
+pub returns-then-is_empty-2 : goal.returns-then-is_empty-2
+returns-then-is_empty-2 c =
+    let a = c.args in
+    let ars : List (List ℕ) = bodies_at a.bundle.now a.places.now in
+    let k : 0 < length a.places.now = some_by _ (sym c.is_empty.ensures ∙ c.if-is_empty.false) in
+    let row = c.together-row.result.items in
+    let none : length row ≡ 0 = eqb-true _ 0 (sym c.is_empty-2.ensures ∙ c.if-is_empty-2.true) in
+    let e : length (together_of ars) ≡ 0 = sym (row_count_lem a.amount ars c.together-row.ensures) ∙ none in
+    c.least_alone.ensures
+    ∙ rw (c.after_alone-alone.ensures, c.body_at.ensures, ← card_body_at a.bundle.now a.places.now 0 k) (all_alone a.amount ars e (omega (arith, k, card_bodies_long a.bundle.now a.places.now)))
 
 pub after_row-requires : goal.after_row-requires
 after_row-requires c =
-    let long : length c.args.cards.at ≡ 4 = search rules in
-    let ars : List (List ℕ) = bodies_at c.args.bundle.now (places_in c.args.cards) in
-    let as_many : length (ars) ≡ c.args.cards.count = card_bodies_long c.args.bundle.now c.args.cards c.requires.0 (long) in
-    let few : length (ars) ≤ 4 = omega (arith, as_many, c.requires.0) in
-    (row_few c.args.amount (ars) c.together-row.ensures (few), row_long c.args.amount (ars) c.together-row.ensures (few), c.requires.1, row_fits c.args.amount (ars) c.together-row.ensures)
+    let a = c.args in
+    let ars : List (List ℕ) = bodies_at a.bundle.now a.places.now in
+    let few : length ars ≤ 4 = omega (arith, card_bodies_long a.bundle.now a.places.now, c.requires.0) in (
+      omega (arith, c.as_slice.ensures.fits),
+      c.requires.1,
+      rw c.as_slice.ensures.value (row_fits a.amount ars c.together-row.ensures),
+    )
 
 pub returns : goal.returns
 returns c =
-    let ars : List (List ℕ) = bodies_at c.args.bundle.now (places_in c.args.cards) in
     let a = c.args in
+    let ars : List (List ℕ) = bodies_at a.bundle.now a.places.now in
     let e = c.together-row.ensures in
+    let some : 0 < length c.together-row.result.items = some_by _ (sym c.is_empty-2.ensures ∙ c.if-is_empty-2.false) in
     c.least_alone-2.ensures
-    ∙ rw (c.after_row.ensures, row_grants a.amount (ars) e)
-    (some_together a.amount (ars) (omega (arith, c.if-row-eq0.false, row_count_lem a.amount (ars) e)))
+    ∙ rw (c.after_row.ensures, c.as_slice.ensures.value, row_grants a.amount ars e) (some_together a.amount ars (omega (arith, some, row_count_lem a.amount ars e)))

@@ -4,7 +4,7 @@ use Prim.Native.Nat.{◌≤◌, ◌*◌}
 use mathlib.Core.Bool.{true}
 use mathlib.Core.Path.{◌≡◌, ◌∙◌, ap}
 use native.Mathlib.Omega.{arith}
-use lib.ListN.{length-map, length-take}
+use lib.ListN.{length, length-map}
 use borrow.Author.Tests.{eq-eqb, ne_eqb}
 use Rattle.std.specs.Prelude.{Ok, Err}
 use Rattle.common.specs.Checks.{first_fault}
@@ -36,31 +36,29 @@ reduce-reduced-requires c =
 pub after_cards-amount-requires : goal.after_cards-amount-requires
 after_cards-amount-requires c =
     let factor : c.conditions_grant.result.factor ≤ 999 = rw c.conditions_grant.ensures (conditions_small c.args.co.now) in
-    (c.requires.2, omega (arith, c.reduce-reduced.ensures, step_small c.conditions_grant.result (factor) c.args.leg.fare, c.requires.0))
+    (c.as_slice.ensures.fits, omega (arith, c.reduce-reduced.ensures, step_small c.conditions_grant.result (factor) c.args.leg.fare, c.requires.0))
 
 pub overflow_mul-result : goal.overflow_mul-result
 unfolding answer_by first_fault part_by
 overflow_mul-result c =
-    let part : let a = c.args in c.after_cards-amount.result * a.q.persons ≡ part_by a.q a.leg a.co.now (bodies_at a.bundle.now (places_in a.cards)) = rw (← c.conditions_grant.ensures, ← c.reduce-reduced.ensures, ← c.after_cards-amount.ensures) in
+    let part : let a = c.args in c.after_cards-amount.result * a.q.persons ≡ part_by a.q a.leg a.co.now (bodies_at a.bundle.now (places_in a.cards)) = rw (← c.conditions_grant.ensures, ← c.reduce-reduced.ensures, ← c.as_slice.ensures.value, ← c.after_cards-amount.ensures) in
     let small : c.after_cards-amount.result * c.args.q.persons ≤ greatest_part = let a = c.args in
     let l = length-map (places_in a.cards) (body_at a.bundle.now) in
-    let n = length-take a.cards.count a.cards.at in
-    rw (part) (by_small 4 a.q a.leg a.co.now (bodies_at a.bundle.now (places_in a.cards)) (omega (arith, c.requires.2)) c.requires.0 c.requires.1) in
+    rw (part) (by_small 4 a.q a.leg a.co.now (bodies_at a.bundle.now (places_in a.cards)) (omega (arith, c.as_slice.ensures.fits, ap length c.as_slice.ensures.value, l)) c.requires.0 c.requires.1) in
     omega (arith, small)
 
 pub overflow_cast-result-2 : goal.overflow_cast-result-2
 unfolding answer_by first_fault part_by
 overflow_cast-result-2 c =
-    let part : let a = c.args in c.after_cards-amount.result * a.q.persons ≡ part_by a.q a.leg a.co.now (bodies_at a.bundle.now (places_in a.cards)) = rw (← c.conditions_grant.ensures, ← c.reduce-reduced.ensures, ← c.after_cards-amount.ensures) in
+    let part : let a = c.args in c.after_cards-amount.result * a.q.persons ≡ part_by a.q a.leg a.co.now (bodies_at a.bundle.now (places_in a.cards)) = rw (← c.conditions_grant.ensures, ← c.reduce-reduced.ensures, ← c.as_slice.ensures.value, ← c.after_cards-amount.ensures) in
     let small : c.after_cards-amount.result * c.args.q.persons ≤ greatest_part = let a = c.args in
     let l = length-map (places_in a.cards) (body_at a.bundle.now) in
-    let n = length-take a.cards.count a.cards.at in
-    rw (part) (by_small 4 a.q a.leg a.co.now (bodies_at a.bundle.now (places_in a.cards)) (omega (arith, c.requires.2)) c.requires.0 c.requires.1) in
+    rw (part) (by_small 4 a.q a.leg a.co.now (bodies_at a.bundle.now (places_in a.cards)) (omega (arith, c.as_slice.ensures.fits, ap length c.as_slice.ensures.value, l)) c.requires.0 c.requires.1) in
     omega (arith, small)
 
 pub returns : goal.returns
 unfolding answer_by first_fault part_by
 returns c =
-    let part : let a = c.args in c.after_cards-amount.result * a.q.persons ≡ part_by a.q a.leg a.co.now (bodies_at a.bundle.now (places_in a.cards)) = rw (← c.conditions_grant.ensures, ← c.reduce-reduced.ensures, ← c.after_cards-amount.ensures) in
+    let part : let a = c.args in c.after_cards-amount.result * a.q.persons ≡ part_by a.q a.leg a.co.now (bodies_at a.bundle.now (places_in a.cards)) = rw (← c.conditions_grant.ensures, ← c.reduce-reduced.ensures, ← c.as_slice.ensures.value, ← c.after_cards-amount.ensures) in
     let fit : persons_fit c.args.co.now c.args.q.persons ≡ true = holds c.persons_fit.result c.if-not-persons_fit.false-raw c.persons_fit.ensures in
     rw (fit, ← c.first_unread-unread.ensures, eq-eqb _ _ c.if-unread-ne0.false) (ap Ok (part))

@@ -2,8 +2,6 @@
 -- Assumes nothing.
 use mathlib.Core.Path.{◌≡◌, sym, ◌∙◌, ap}
 use mathlib.Core.List.{map}
-use native.Mathlib.Omega.{arith}
-use lib.ListN.{length, length-map}
 use Rattle.common.proofs.Checks.{as_found}
 use Rattle.layout.specs.Layout.{CO}
 use Rattle.bundle.specs.Records.{records_of}
@@ -11,20 +9,9 @@ use Rattle.choice.specs.Helpers.{at_place}
 use Rattle.choice.proofs.WalkLaws.{chosen_at}
 use Rattle.fares.specs.Legs.{wanted_for, conditions_for, body_of, applied_for}
 use Rattle.fares.specs.Helpers.{place_of, cards_by, placed, answer_of}
-use Rattle.fares.specs.declared.records.Cards.{Cards}
 use Rattle.fares.specs.declared.records.LegRecords.{LegRecords}
-use Rattle.fares.proofs.LegLaws.{applied_four, no_conditions, off_day, by_places}
+use Rattle.fares.proofs.LegLaws.{no_conditions, off_day, by_places}
 use Rattle.fares.proofs.legs.price_from.Goals as goal
-
-pub price_by-requires : goal.price_by-requires
-unfolding cards_by placed
-price_by-requires c =
-    let cards : let a = c.args in let R = records_of a.bundle.now in a.records.cards ≡ cards_by (map (place_of a.bundle.now) (applied_for R a.q a.leg (body_of R (conditions_for R a.q a.leg)))) = ap (λ (r : LegRecords). r.cards) c.requires.2 in
-    let a = c.args in
-    let R = records_of a.bundle.now in
-    let is = applied_for R a.q a.leg (body_of R (conditions_for R a.q a.leg)) in
-    let n : a.records.cards.count ≡ length is = ap (λ (x : Cards). x.count) (cards) ∙ length-map is (place_of a.bundle.now) in
-    (c.requires.0, c.requires.1, omega (arith, applied_four R a.q a.leg (body_of R (conditions_for R a.q a.leg))))
 
 pub returns-in-Nothing : goal.returns-in-Nothing
 unfolding answer_of placed

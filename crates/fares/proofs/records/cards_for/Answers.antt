@@ -1,43 +1,33 @@
 -- `fares::records::cards_for` meets its contract. The loop's invariant: the places found so far, and the slots that are left.
 -- Assumes nothing.
-use Prim.Native.Nat.{◌<◌}
-use mathlib.Core.Path.{sym, ◌∙◌}
+use mathlib.Core.Path.{◌≡◌, sym, ◌∙◌}
 use native.Mathlib.Omega.{arith}
+use lib.ListN.{length}
+use borrow.Author.Rules.{rules}
 use Rattle.choice.proofs.WalkLaws.{not_at}
 use Rattle.fares.proofs.LegLaws.{looked_first, looked_found, looked_none, looked_last}
 use Rattle.fares.proofs.records.cards_for.Goals as goal
 use Rattle.fares.proofs.records.cards_for.Goals.{in-At, in_default}
 
-pub loop-k-init : goal.loop-k-init
-loop-k-init c = (omega arith, looked_first _ _ _)
+pub loop-card-init : goal.loop-card-init
+loop-card-init c = rw c.new-places.ensures (looked_first c.args.bundle.now c.args.q c.args.leg)
 
-pub offset_bounds-at-count : goal.offset_bounds-at-count
-offset_bounds-at-count c =
-    let few : c.loop-k.count < 4 = let w = c.loop-k.invariant.1 in omega (arith, w.counted, w.few, c.loop-k-test.true) in
-    omega (arith, few)
-
-pub bounds-at-count : goal.bounds-at-count
-bounds-at-count c =
-    let few : c.loop-k.count < 4 = let w = c.loop-k.invariant.1 in omega (arith, w.counted, w.few, c.loop-k-test.true) in
-    few
-
-pub overflow_add-count : goal.overflow_add-count
-overflow_add-count c =
-    let few : c.loop-k.count < 4 = let w = c.loop-k.invariant.1 in omega (arith, w.counted, w.few, c.loop-k-test.true) in
-    omega (arith, few)
-
-pub loop-k-preserved : goal.loop-k-preserved
-loop-k-preserved c =
-    let w = c.loop-k.invariant.1 in (
-      omega arith,
-      elim c.match-found.branch [
-        | in-At v ↦
-            rw (v.at-is, v.count-is) (looked_found c.args.bundle.now c.args.q c.args.leg w c.loop-k-test.true (sym v.in-At.is ∙ c.card_for-found.ensures))
-        | in_default v ↦
-            rw (v.at-is, v.count-is)
-            (looked_none c.args.bundle.now c.args.q c.args.leg w c.loop-k-test.true (not_at c.args.bundle.now c.card_for-found.result v.in_default.not-At c.card_for-found.ensures))
-      ],
-    )
+pub loop-card-preserved : goal.loop-card-preserved
+loop-card-preserved c =
+    let a = c.args in
+    let s = a.bundle.now in
+    let k = c.loop-card.card-index in
+    let seen = c.loop-card.places.items in
+    let w = c.loop-card.invariant in
+    let long : length a.q.cards ≡ 4 = search rules in
+    elim c.match-card_for.branch [
+      | in-At v ↦ rw (v.places-is, v.push.ensures.items) (looked_found s a.q a.leg k seen w (omega (arith, long)) (sym v.in-At.is ∙ c.card_for.ensures))
+      | in_default v ↦
+          rw v.places-is (looked_none s a.q a.leg k seen w (omega (arith, long)) (not_at s c.card_for.result v.in_default.not-At c.card_for.ensures))
+    ]
 
 pub returns : goal.returns
-returns c = looked_last c.args.bundle.now c.args.q c.args.leg c.loop-k.invariant.1 c.loop-k-test.false
+returns c =
+    let a = c.args in
+    let long : length a.q.cards ≡ 4 = search rules in
+    looked_last a.bundle.now a.q a.leg c.loop-card.card-index c.loop-card.places.items c.loop-card.invariant (omega (arith, long, c.loop-card-test.false))

@@ -1,7 +1,9 @@
 -- `fares::records::choose` meets its contract.
 -- Assumes nothing.
 use mathlib.Core.Path.{◌≡◌, sym, ◌∙◌, ap}
-use mathlib.Core.List.{map}
+use Prim.Native.Nat.{ℕ}
+use mathlib.Core.List.{List, map}
+use Rattle.arrayvec.specs.ArrayVec.{ArrayVec}
 use Rattle.common.proofs.Tests.{fails, holds}
 use Rattle.bundle.specs.Records.{records_of}
 use Rattle.choice.specs.Choice.{choice_of}
@@ -13,6 +15,10 @@ use Rattle.fares.specs.Helpers.{place_of, cards_by, placed}
 use Rattle.fares.proofs.LegLaws.{no_conditions_cards, flag_cards}
 use Rattle.fares.proofs.records.choose.Goals as goal
 
+-- the places are all that a vector of them is
+the_same : {v : ArrayVec ℕ} {places : List ℕ} → v.items ≡ places → v ≡ cards_by places
+the_same e = λ j. record { items = e j }
+
 pub returns-in_default : goal.returns-in_default
 unfolding placed
 returns-in_default c =
@@ -21,7 +27,7 @@ returns-in_default c =
     let a = c.args in
     let s = a.bundle.now in
     let n = not_at s c.choose-conditions.result c.in_default.not-At (conditions) in
-    let f = c.no_cards.ensures ∙ ap (λ is. cards_by (map (place_of s) is)) (sym (no_conditions_cards s a.q a.leg n)) in
+    let f = (the_same c.new.ensures) ∙ ap (λ is. cards_by (map (place_of s) is)) (sym (no_conditions_cards s a.q a.leg n)) in
     λ j. record { conditions = conditions j; cards = f j }
 
 pub returns-then-not-is_yes : goal.returns-then-not-is_yes
@@ -35,7 +41,7 @@ returns-then-not-is_yes c =
     let e = chosen_at s (wanted_for CO 0 a.q a.leg) _ n in
     let no = fails c.is_yes.result c.if-not-is_yes.true-raw c.is_yes.ensures in
     let f = flag_cards s a.q a.leg e.1 (c.body_at.ensures ∙ e.2) (sym no) in
-    λ j. record { conditions = sym n j; cards = (c.no_cards-then-not-is_yes.ensures ∙ ap (λ is. cards_by (map (place_of s) is)) (sym f)) j }
+    λ j. record { conditions = sym n j; cards = ((the_same c.new-then-not-is_yes.ensures) ∙ ap (λ is. cards_by (map (place_of s) is)) (sym f)) j }
 
 pub returns : goal.returns
 unfolding placed
@@ -48,4 +54,4 @@ returns c =
     let e = chosen_at s (wanted_for CO 0 a.q a.leg) _ n in
     let yes = holds c.is_yes.result c.if-not-is_yes.false-raw c.is_yes.ensures in
     let f = flag_cards s a.q a.leg e.1 (c.body_at.ensures ∙ e.2) (sym yes) in
-    λ j. record { conditions = sym n j; cards = (c.cards_for.ensures ∙ ap (λ is. cards_by (map (place_of s) is)) (sym f)) j }
+    λ j. record { conditions = sym n j; cards = ((the_same c.cards_for.ensures) ∙ ap (λ is. cards_by (map (place_of s) is)) (sym f)) j }
