@@ -1,17 +1,16 @@
 -- Laws of hints: each stays the place of a record, and a record that serves there is one of the bundle's.
 -- Assumes nothing.
 use Prim.Native.Nat.{ℕ, zero, suc, ◌+◌, ◌*◌, ◌<◌}
-use mathlib.Core.Path.{◌≡◌, refl, sym, ◌∙◌}
+use mathlib.Core.Path.{◌≡◌, refl, sym}
 use mathlib.Core.Bool.{true, false}
 use mathlib.Core.Logic.{⊎_elim}
 use mathlib.Core.List.{List}
 use native.Mathlib.Omega.{arith}
-use lib.Dec.{ltb}
 use lib.ListN.{length, get_or, set, replicate, get_or-eq_default}
-use borrow.Author.Tests.{lt-ltb, le-ltb}
+use Rattle.std.specs.Prelude.{Option, Some, None, is_some}
 use Rattle.common.specs.Lists.{any}
 use Rattle.common.proofs.Lists.{at_any, after_store}
-use Rattle.common.proofs.Tests.{never, side}
+use Rattle.common.proofs.Tests.{never}
 use Rattle.bundle.specs.Records.{Rec, rec, no_rec, if_whole, between, records_of}
 use Rattle.bundle.specs.Links.{serves}
 use Rattle.bundle.specs.Helpers.{step_at, places_of, place_behind}
@@ -62,7 +61,7 @@ served_there s l r p h e = let x = place_here s p h in (served_here s l r p x.0 
 
 -- so that a search may tell of it.
 pub found_here : (s : List ℕ) (l : Link) (r : Rec) (p j : ℕ) → Here s p j → serves_at s l r p ≡ true → Found s l r p
-found_here s l r p j h e b = served_here s l r p j h e
+found_here s l r p j h e = served_here s l r p j h e
 
 -- THE PLACE BEHIND a place is one of the walk's.
 pub here_behind : (s : List ℕ) (p j : ℕ) → Here s p j → (k : ℕ) × Here s (place_behind s p) k
@@ -75,6 +74,6 @@ here_behind s p j h = go (step_at s p) refl
     go (Whole t start next) q = (j + 1, (stands s p j h q refl).then)
 
 -- A SEARCH tells whether some record serves.
-pub searched : (s : List ℕ) (l : Link) (r : Rec) (p : ℕ) → SearchTells s l r p → ltb p (length s) ≡ any (serves l r) (records_of s)
-searched s l r p t =
-    ⊎_elim (λ h. lt-ltb p (length s) h ∙ sym (t.0 h).1) (λ h. le-ltb p (length s) h ∙ sym (t.1 h)) (side p (length s))
+pub searched : (s : List ℕ) (l : Link) (r : Rec) (found : Option ℕ) → SearchTells s l r found → is_some found ≡ any (serves l r) (records_of s)
+searched s l r None t = sym t
+searched s l r (Some p) t = sym t.1

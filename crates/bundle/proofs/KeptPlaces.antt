@@ -16,11 +16,11 @@ use Rattle.layout.specs.Fields.{same_key}
 use Rattle.layout.specs.Helpers.{key_number}
 use Rattle.layout.proofs.Tables.{same_number_lem}
 use Rattle.seen.specs.Seen.{slot_behind, slot_of, has_tag, value_at, IsPut, Holds}
-use Rattle.seen.proofs.Laws.{next_try, held_before_lem, room_inside, put_holds}
+use Rattle.seen.proofs.Laws.{next_try, held_before_lem, put_holds}
 use Rattle.bundle.specs.Records.{Rec, rec, no_rec, if_whole, between, records_of}
 use Rattle.bundle.specs.Keys.{clash}
 use Rattle.bundle.specs.Helpers.{step_at, places_of}
-use Rattle.bundle.specs.Apart.{number_of, clashes_at, slot_clashes, Passed, IsFree, SlotTells, Kept, ApartTells}
+use Rattle.bundle.specs.Apart.{number_of, clashes_at, slot_clashes, Passed, IsFree, Kept, ApartTells}
 use Rattle.bundle.specs.declared.walk.Step.{Step}
 use Rattle.bundle.specs.declared.walk.Step.TheVariants.{Unknown, Short, Whole}
 use Rattle.bundle.proofs.Here.{Here, unknown, short, stands, unknown_there, short_there, over_count, here_of}
@@ -83,9 +83,9 @@ module _ (s heads lows : List ℕ) (i : ℕ) (kept : Kept s heads lows i) (r : R
 
 -- and both are told of it.
 pub put_tells : (s heads lows : List ℕ) (r : Rec) (slot p : ℕ) {number : ℕ} {told : Bool} {heads_after lows_after : List ℕ} → number ≡ number_of r
-    → SlotTells s heads lows number r slot → IsPut heads lows slot number p told heads_after lows_after
+    → IsFree s heads lows number r slot → IsPut heads lows slot number p told heads_after lows_after
     → ApartTells s heads lows r p told heads_after lows_after
 put_tells s heads lows r slot p {number} n f put t i l at place kept =
-    let free = rw n at (f (room_inside heads lows slot number p (sym put.0 ∙ t)).0) in
+    let free = rw n at f in
     let h = put_holds heads lows slot (number_of r) p (rw n at put) t free.2 free.0 free.1 (λ j b. (free.3 j b).0) in
     (none_clashes s heads lows i kept r slot free (omega arith), kept_next s heads lows i kept r at (rw place h))

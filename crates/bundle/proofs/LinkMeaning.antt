@@ -8,6 +8,7 @@ use mathlib.Core.Logic.{◌⊎◌, inl, inr, ⊎_elim}
 use native.Mathlib.Omega.{arith}
 use lib.Dec.{eqb, ltb}
 use lib.ListN.{get_or}
+use Rattle.std.specs.Prelude.{Some, None}
 use borrow.Author.Tests.{eqb-true, eq-eqb, lt-ltb, ltb-true, not-true}
 use Rattle.common.specs.Least.{least}
 use Rattle.common.specs.Lists.{any, same}
@@ -20,10 +21,12 @@ use Rattle.layout.specs.Company.{is_all_railways}
 use Rattle.layout.specs.Fields.{row_with, row_of, bytes_of, byte_of, is_yes, of_offers, offer_of, railway_of, code_of}
 use Rattle.layout.proofs.Tables.{offer_stands, railway_stands}
 use Rattle.bundle.specs.Records.{Rec, no_rec}
-use Rattle.bundle.specs.Links.{BY_OFFER_AND_RAILWAY, BY_OFFER, always, link, links, link_rows, no_link, is_asked, railway_serves, joins, serves, lacks, missing_link}
+use Rattle.bundle.specs.Links.{link, links, link_rows, no_link, is_asked, railway_serves, joins, serves, lacks, missing_link}
 use Rattle.bundle.specs.Meaning.{record_at, There, OfCode, OfOffer, all_railways, Serves, Linked}
 use Rattle.bundle.specs.Faults.{Missing, no_re, no_co_of_ar, no_co_of_me, no_ar, no_me}
 use Rattle.bundle.specs.declared.links.Link.{Link}
+use Rattle.bundle.specs.declared.links.Join.{Join}
+use Rattle.bundle.specs.declared.links.Join.TheVariants.{ByOffer, ByOfferAndRailway}
 
 -- either of two tests
 either_true : (a b : Bool) → (a || b) ≡ true → (a ≡ true) ⊎ (b ≡ true)
@@ -78,7 +81,7 @@ module _ {R : List Rec} {r : Rec} {Asks : Type 0} {Such : Rec → Type 0} (k : �
 
 -- THE FIVE ROWS
 module _ (R : List Rec) (r : Rec) where
-  asked_table : (t w j d : ℕ) → is_asked (link t always w j d) r ≡ eqb t r.table
+  asked_table : (t w : ℕ) (j : Join) (d : ℕ) → is_asked (link t None w j d) r ≡ eqb t r.table
   unfolding is_asked
   asked_table t w j d = and-true (eqb t r.table)
 
@@ -95,7 +98,7 @@ module _ (R : List Rec) (r : Rec) where
         served = λ a x h. rw (h.0, a) (is_same _ _ (sym h.1));
       }
 
-  of_offer : (t d k : ℕ) → get_or link_rows k no_link ≡ link t always CO BY_OFFER d → of_offers t ≡ true → Says R r (get_or link_rows k no_link) (r.table ≡ t) (OfOffer t r)
+  of_offer : (t d k : ℕ) → get_or link_rows k no_link ≡ link t None CO ByOffer d → of_offers t ≡ true → Says R r (get_or link_rows k no_link) (r.table ≡ t) (OfOffer t r)
   unfolding serves joins offer_of
   of_offer t d k z o =
       rw z (record {
@@ -103,15 +106,14 @@ module _ (R : List Rec) (r : Rec) where
         asked = λ a. asked_table t _ _ _ ∙ eq-eqb t r.table (sym a);
         such = λ a x e.
             let b = both_true (eqb x.table CO) _ e in
-            let c = both_true (same (offer_of r.body) (offer_of x.body)) true b.1 in
-            (eqb-true x.table CO b.0, sym (same_is _ _ c.0) ∙ sym (offer_stands t o r.body));
-        served = λ a x h. rw (eq-eqb x.table CO h.0, and-true (same (offer_of r.body) (offer_of x.body))) (is_same _ _ (sym (offer_stands t o r.body) ∙ sym h.1));
+            (eqb-true x.table CO b.0, sym (same_is _ _ b.1) ∙ sym (offer_stands t o r.body));
+        served = λ a x h. rw (eq-eqb x.table CO h.0) (is_same _ _ (sym (offer_stands t o r.body) ∙ sym h.1));
       })
 
-  flag_is : (f : ℕ) → is_yes CO f r.body ≡ eqb (byte_of CO f r.body) byte_Y → (w j d : ℕ) → eqb f always ≡ false
-      → is_asked (link CO f w j d) r ≡ (eqb CO r.table && eqb (byte_of CO f r.body) byte_Y)
+  flag_is : (f : ℕ) → is_yes CO f r.body ≡ eqb (byte_of CO f r.body) byte_Y → (w : ℕ) (j : Join) (d : ℕ)
+      → is_asked (link CO (Some f) w j d) r ≡ (eqb CO r.table && eqb (byte_of CO f r.body) byte_Y)
   unfolding is_asked
-  flag_is f y w j d n = rw (n, y)
+  flag_is f y w j d = rw y
 
   serving : (t : ℕ) → of_offers t ≡ true → (x : Rec) → railway_serves r.body x.body ≡ true
       → (bytes_of CO 3 r.body ≡ all_railways) ⊎ ((bytes_of t 3 x.body ≡ bytes_of CO 3 r.body) ⊎ (bytes_of t 3 x.body ≡ all_railways))
@@ -130,14 +132,14 @@ module _ (R : List Rec) (r : Rec) where
       (⊎_elim (λ a. inl (is_same _ _ a))
       (λ b. inr (true_either _ _ (⊎_elim (λ a. inl (is_same _ _ (sym (railway_stands t o x.body) ∙ a))) (λ a. inr (is_same _ _ (sym (railway_stands t o x.body) ∙ a))) b))) h)
 
-  of_flag : (f t d k : ℕ) → get_or link_rows k no_link ≡ link CO f t BY_OFFER_AND_RAILWAY d → of_offers t ≡ true → eqb f always ≡ false
+  of_flag : (f t d k : ℕ) → get_or link_rows k no_link ≡ link CO (Some f) t ByOfferAndRailway d → of_offers t ≡ true
       → is_yes CO f r.body ≡ eqb (byte_of CO f r.body) byte_Y
       → Says R r (get_or link_rows k no_link) ((r.table ≡ CO) × (byte_of CO f r.body ≡ byte_Y)) (Serves t r)
   unfolding serves joins offer_of
-  of_flag f t d k z o n y =
+  of_flag f t d k z o y =
       rw z (record {
-        asks = λ e. let b = both_true (eqb CO r.table) _ (sym (flag_is f y t BY_OFFER_AND_RAILWAY d n) ∙ e) in (sym (eqb-true CO r.table b.0), eqb-true _ _ b.1);
-        asked = λ a. flag_is f y t BY_OFFER_AND_RAILWAY d n ∙ rw (eq-eqb CO r.table (sym a.0), eq-eqb _ _ a.1);
+        asks = λ e. let b = both_true (eqb CO r.table) _ (sym (flag_is f y t ByOfferAndRailway d) ∙ e) in (sym (eqb-true CO r.table b.0), eqb-true _ _ b.1);
+        asked = λ a. flag_is f y t ByOfferAndRailway d ∙ rw (eq-eqb CO r.table (sym a.0), eq-eqb _ _ a.1);
         such = λ a x e.
             let b = both_true (eqb x.table t) _ e in
             let c = both_true (same (offer_of r.body) (offer_of x.body)) (railway_serves r.body x.body) b.1 in
@@ -156,11 +158,11 @@ module _ (R : List Rec) (r : Rec) where
 
   flag_33 : Says R r (get_or link_rows 3 no_link) ((r.table ≡ CO) × (byte_of CO 33 r.body ≡ byte_Y)) (Serves AR r)
   unfolding link_rows is_yes of_offers any row_of row_with table_at tables
-  flag_33 = of_flag 33 AR 3 3 refl refl refl refl
+  flag_33 = of_flag 33 AR 3 3 refl refl refl
 
   flag_37 : Says R r (get_or link_rows 4 no_link) ((r.table ≡ CO) × (byte_of CO 37 r.body ≡ byte_Y)) (Serves ME r)
   unfolding link_rows is_yes of_offers any row_of row_with table_at tables
-  flag_37 = of_flag 37 ME 4 4 refl refl refl refl
+  flag_37 = of_flag 37 ME 4 4 refl refl refl
 
   -- EVERY LINK is there exactly if no row lacks,
   pub links_there : ltb (missing_link R r) links ≡ false → Linked R r

@@ -29,10 +29,6 @@ abbrev pub IsFree : List ℕ → List ℕ → List ℕ → ℕ → Rec → ℕ �
 IsFree s heads lows number r slot =
     (k : ℕ) × (slot ≡ slot_of (length heads) number k) × (get_or heads slot 0 ≡ 0) × Passed s heads lows number r k
 
--- what is told of a slot
-abbrev pub SlotTells : List ℕ → List ℕ → List ℕ → ℕ → Rec → ℕ → Type 0
-SlotTells s heads lows number r slot = slot < length heads → IsFree s heads lows number r slot
-
 -- the place of each record before i is kept, under the record's number
 abbrev pub Kept : List ℕ → List ℕ → List ℕ → ℕ → Type 0
 Kept s heads lows i = (j : ℕ) → j < i → Held heads lows (number_of (get_or (records_of s) j no_rec)) (get_or (places_of s) j 0)

@@ -1,6 +1,6 @@
 -- Where the verdict looks for a link's record first. Nothing here has to be believed: no promise and no answer of a call is stated with it.
 -- Assumes nothing.
-use Rattle.std.specs.Prelude.{ℕ, ◌+◌, ◌*◌, ◌%◌, ◌≤◌, ◌<◌, ◌≡◌, Bool, true, false, cond, List, length, get_or}
+use Rattle.std.specs.Prelude.{ℕ, ◌+◌, ◌*◌, ◌%◌, ◌≡◌, Bool, true, false, cond, List, Option, MatchOption, get_or}
 use Rattle.common.specs.Lists.{any}
 use Rattle.common.specs.Ranks.{rank_of}
 use Rattle.layout.specs.Fields.{offer_of, code_of}
@@ -39,9 +39,9 @@ hint_number wants coded t body = rank_of (name_of coded t body) + wants * table_
 unfoldable pub serves_at : List ℕ → Link → Rec → ℕ → Bool
 serves_at s l r p = if_whole (step_at s p) false (λ t start next. serves l r (rec t (between start next s)))
 
--- what a search tells: where a record stands that serves, or the bundle's length, and then none serves if it went through the whole bundle
+-- what a search tells: where a record stands that serves, or that none does
 abbrev pub Found : List ℕ → Link → Rec → ℕ → Type 0
-Found s l r p = p < length s → IsPlace s p × (any (serves l r) (records_of s) ≡ true)
+Found s l r p = IsPlace s p × (any (serves l r) (records_of s) ≡ true)
 
-abbrev pub SearchTells : List ℕ → Link → Rec → ℕ → Type 0
-SearchTells s l r p = Found s l r p × (length s ≤ p → any (serves l r) (records_of s) ≡ false)
+abbrev pub SearchTells : List ℕ → Link → Rec → Option ℕ → Type 0
+SearchTells s l r found = MatchOption found (any (serves l r) (records_of s) ≡ false) (Found s l r)

@@ -1,6 +1,6 @@
 -- Links from a record to another, which stands before or after it (document 01, 'Keys and links').
 -- Assumes nothing.
-use Rattle.std.specs.Prelude.{ℕ, Bool, cond, not, ◌&&◌, ◌||◌, List, [], ◌∷◌, eqb, get_or}
+use Rattle.std.specs.Prelude.{ℕ, Bool, true, not, ◌&&◌, ◌||◌, List, [], ◌∷◌, Option, Some, None, eqb, get_or}
 use Rattle.common.specs.Least.{least}
 use Rattle.common.specs.Lists.{same, any}
 use Rattle.layout.specs.Layout.{CO, RE, AR, ME}
@@ -8,27 +8,15 @@ use Rattle.layout.specs.Company.{is_all_railways}
 use Rattle.layout.specs.Fields.{is_yes, offer_of, railway_of, code_of}
 use Rattle.bundle.specs.Records.{Rec}
 use Rattle.bundle.specs.declared.links.Link.{Link}
+use Rattle.bundle.specs.declared.links.Join.{Join}
+use Rattle.bundle.specs.declared.links.Join.TheVariants.{ByCode, ByOffer, ByOfferAndRailway}
 
--- how two records are joined
-abbrev pub BY_CODE : ℕ
-BY_CODE = 0
-
-abbrev pub BY_OFFER : ℕ
-BY_OFFER = 1
-
-abbrev pub BY_OFFER_AND_RAILWAY : ℕ
-BY_OFFER_AND_RAILWAY = 2
-
--- the flag of a link that every record of its table asks for
-abbrev pub always : ℕ
-always = 0
-
--- a record of table t, or a CO whose flag f is Y, wants one of table w that is joined with it by j, or the detail d is told
-abbrev pub link : ℕ → ℕ → ℕ → ℕ → ℕ → Link
+-- a record of table t, where a flag f is asked a CO whose field f is Y, wants one of table w that is joined with it by j, or the detail d is told
+abbrev pub link : ℕ → Option ℕ → ℕ → Join → ℕ → Link
 link t f w j d = record { table = t; flag = f; wants = w; join = j; detail = d }
 
 abbrev pub no_link : Link
-no_link = link 0 0 0 0 0
+no_link = link 0 None 0 ByCode 0
 
 -- how many links there are
 abbrev pub links : ℕ
@@ -38,24 +26,29 @@ links = 5
 -- needs an AR of its offer (detail 3), with 37 = Y an ME (detail 4)"
 unfoldable pub link_rows : List Link
 link_rows =
-    link AR always RE BY_CODE 1 ∷
-    link AR always CO BY_OFFER 2 ∷
-    link ME always CO BY_OFFER 2 ∷
-    link CO 33 AR BY_OFFER_AND_RAILWAY 3 ∷
-    link CO 37 ME BY_OFFER_AND_RAILWAY 4 ∷
+    link AR None RE ByCode 1 ∷
+    link AR None CO ByOffer 2 ∷
+    link ME None CO ByOffer 2 ∷
+    link CO (Some 33) AR ByOfferAndRailway 3 ∷
+    link CO (Some 37) ME ByOfferAndRailway 4 ∷
     []
 
+-- where no flag is asked, every record of the table wants one
+abbrev pub flag_is_set : Option ℕ → List ℕ → Bool
+flag_is_set None body = true
+flag_is_set (Some f) body = is_yes CO f body
+
 unfoldable pub is_asked : Link → Rec → Bool
-is_asked l r = eqb l.table r.table && (eqb l.flag always || is_yes CO l.flag r.body)
+is_asked l r = eqb l.table r.table && flag_is_set l.flag r.body
 
 -- "for a CO railway R other than 0000 that record must have railway R or 0000, for 0000 any railway serves"
 unfoldable pub railway_serves : List ℕ → List ℕ → Bool
 railway_serves r q = is_all_railways (railway_of r) || (same (railway_of q) (railway_of r) || is_all_railways (railway_of q))
 
-unfoldable pub joins : ℕ → Rec → Rec → Bool
-joins j r q =
-    cond (eqb j BY_CODE) (same (code_of r.table r.body) (code_of q.table q.body))
-    (same (offer_of r.body) (offer_of q.body) && (eqb j BY_OFFER || railway_serves r.body q.body))
+unfoldable pub joins : Join → Rec → Rec → Bool
+joins ByCode r q = same (code_of r.table r.body) (code_of q.table q.body)
+joins ByOffer r q = same (offer_of r.body) (offer_of q.body)
+joins ByOfferAndRailway r q = same (offer_of r.body) (offer_of q.body) && railway_serves r.body q.body
 
 -- q is a record that r wants by the link
 unfoldable pub serves : Link → Rec → Rec → Bool

@@ -1,8 +1,8 @@
 // Which records clash with none before them. The places of these are kept in a table, each under the number of its record: records that clash have one
 // number, so that a record need only be compared with those on the way of its own.
-ghost use Rattle.std.specs.Prelude.{◌≡◌};
+ghost use Rattle.std.specs.Prelude.{◌≡◌, IfSome};
 ghost use Rattle.bundle.specs.Records.{rec};
-ghost use Rattle.bundle.specs.Apart.{clashes_at, slot_clashes, SlotTells, ApartTells};
+ghost use Rattle.bundle.specs.Apart.{clashes_at, slot_clashes, IsFree, ApartTells};
 
 use super::walk::Step;
 
@@ -35,7 +35,7 @@ fn slot_clashes<'a, 'b>(
     clashes_at(bundle, seen::value_at(heads, lows, slot), table, r)
 }
 
-// The first empty slot on the way of a number, if no record before it clashes; else as much as there are slots.
+// The first empty slot on the way of a number, if no record before it clashes.
 fn free_slot<'a, 'b>(
     bundle: &'a [u8],
     heads: &'b [u8],
@@ -43,23 +43,21 @@ fn free_slot<'a, 'b>(
     number: u64,
     table: u32,
     r: &'a [u8],
-) -> usize
-    ensures { SlotTells bundle.now heads.now lows.now number (rec table r.now) result }
+) -> Option<usize>
+    ensures { IfSome result (λ slot. IsFree bundle.now heads.now lows.now number (rec table r.now) slot) }
 {
     let slots = heads.len();
     let mut slot = seen::home(slots, number);
-    let mut k = 0;
-    while k < slots {
+    for _ in 0..slots {
         if seen::head_at(heads, slot) == 0 {
-            return slot;
+            return Some(slot);
         }
         if slot_clashes(bundle, heads, lows, number, table, r, slot) {
-            return slots;
+            return None;
         }
         slot = seen::slot_behind(slots, slot);
-        k += 1;
     }
-    slots
+    None
 }
 
 // Whether the record at a place is found to clash with none before it, all of which are kept. It is then kept itself.
@@ -74,6 +72,8 @@ pub fn is_apart<'a>(
     ensures { ApartTells bundle.now heads.old lows.old (rec table r.now) at result heads.new lows.new }
 {
     let number = layout::fields::key_number(table, r);
-    let slot = free_slot(bundle, heads, lows, number, table, r);
+    let Some(slot) = free_slot(bundle, heads, lows, number, table, r) else {
+        return false;
+    };
     seen::put(heads, lows, slot, number, at)
 }

@@ -39,8 +39,7 @@ pub fn slot_of(hints: &[u32], number: u64) -> usize {
         return 0;
     }
     let mut slot = number % count;
-    let mut k = 0;
-    while k < TRIES {
+    for _ in 0..TRIES {
         let hint = hints[slot as usize] as u64;
         if hint == 0 {
             return slot as usize;
@@ -49,7 +48,6 @@ pub fn slot_of(hints: &[u32], number: u64) -> usize {
             return slot as usize;
         }
         slot = (slot + STRIDE) % count;
-        k += 1;
     }
     slot as usize
 }

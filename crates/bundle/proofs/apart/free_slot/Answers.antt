@@ -7,23 +7,17 @@ use Rattle.bundle.specs.Records.{rec}
 use Rattle.bundle.proofs.KeptPlaces.{way_on}
 use Rattle.bundle.proofs.apart.free_slot.Goals as goal
 
-pub loop-k-init : goal.loop-k-init
+pub loop-init : goal.loop-init
 unfolding slot_of
-loop-k-init c = (c.home-slot.ensures, λ j l. absurd (omega arith))
+loop-init c = (c.home-slot.ensures, λ j l. absurd (omega arith))
 
 pub returns-then-head_at-eq0 : goal.returns-then-head_at-eq0
 returns-then-head_at-eq0 c =
-    λ inside. let l = c.loop-k in
-    (l.k, l.invariant.0, sym c.head_at.ensures ∙ c.if-head_at-eq0.true, l.invariant.1)
+    let l = c.loop in
+    (l.counter, l.invariant.0, sym c.head_at.ensures ∙ c.if-head_at-eq0.true, l.invariant.1)
 
-pub returns-then-slot_clashes : goal.returns-then-slot_clashes
-returns-then-slot_clashes c = λ inside. absurd (omega arith)
-
-pub loop-k-preserved : goal.loop-k-preserved
-loop-k-preserved c =
-    let l = c.loop-k in
+pub loop-preserved : goal.loop-preserved
+loop-preserved c =
+    let l = c.loop in
     let a = c.args in
-    way_on a.bundle.now a.heads.now a.lows.now a.number (rec a.table a.r.now) l.slot l.k l.invariant.0 l.invariant.1 c.head_at.ensures c.if-head_at-eq0.false c.slot_clashes.ensures c.if-slot_clashes.false c.slot_behind-slot.ensures
-
-pub returns : goal.returns
-returns c = λ inside. absurd (omega arith)
+    way_on a.bundle.now a.heads.now a.lows.now a.number (rec a.table a.r.now) l.slot l.counter l.invariant.0 l.invariant.1 c.head_at.ensures c.if-head_at-eq0.false c.slot_clashes.ensures c.if-slot_clashes.false c.slot_behind-slot.ensures

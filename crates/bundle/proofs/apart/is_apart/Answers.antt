@@ -7,4 +7,4 @@ use Rattle.bundle.proofs.apart.is_apart.Goals as goal
 pub returns : goal.returns
 returns c =
     let a = c.args in
-    put_tells a.bundle.now a.heads.now a.lows.now (rec a.table a.r.now) c.free_slot-slot.result a.at c.key_number-number.ensures c.free_slot-slot.ensures c.put.ensures
+    put_tells a.bundle.now a.heads.now a.lows.now (rec a.table a.r.now) c.in-Some.slot a.at c.key_number-number.ensures c.in-Some.ensures c.put.ensures

@@ -5,12 +5,12 @@ use native.Mathlib.Nat.{mod-lt}
 use borrow.Author.Rules.{rules}
 use Rattle.bundle.proofs.hints.slot_of.Goals as goal
 
-pub loop-k-init : goal.loop-k-init
-loop-k-init c = (mod-lt _ (omega arith), omega arith)
+pub loop-init : goal.loop-init
+loop-init c = mod-lt _ (omega arith)
 
 pub overflow_cast-hint : goal.overflow_cast-hint
 overflow_cast-hint c =
-    let b = c.shared_slice_known-1.given c.loop-k.slot in search rules
+    let b = c.shared_slice_known-1.given c.loop.slot in search rules
 
-pub loop-k-preserved : goal.loop-k-preserved
-loop-k-preserved c = (mod-lt _ (omega arith), omega arith)
+pub loop-preserved : goal.loop-preserved
+loop-preserved c = mod-lt _ (omega arith)

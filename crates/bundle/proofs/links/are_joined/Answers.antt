@@ -1,21 +1,22 @@
 -- `bundle::links::are_joined` meets its contract.
 -- Assumes nothing.
-use borrow.Author.Tests.{eq-eqb, ne_eqb, not-true, not-false}
 use Rattle.bundle.specs.Links.{joins}
 use Rattle.bundle.proofs.links.are_joined.Goals as goal
 
-pub returns-then-join-eq-BY_CODE : goal.returns-then-join-eq-BY_CODE
+pub returns-in-ByCode : goal.returns-in-ByCode
 unfolding joins
-returns-then-join-eq-BY_CODE c = rw (eq-eqb _ _ c.if-join-eq-BY_CODE.true, c.same_bytes.ensures, c.code.ensures, c.code-then-join-eq-BY_CODE.ensures)
+returns-in-ByCode c = rw (c.in-ByCode.is, c.same_bytes.ensures, c.code.ensures, c.code-in-ByCode.ensures)
 
-pub returns-then-not-same_bytes : goal.returns-then-not-same_bytes
+pub returns-in-ByOffer : goal.returns-in-ByOffer
 unfolding joins
-returns-then-not-same_bytes c = rw (ne_eqb _ _ c.if-join-eq-BY_CODE.false, ← c.offer.ensures, ← c.offer-2.ensures, ← c.same_bytes-2.ensures, not-true c.same_bytes-2.result c.if-not-same_bytes.true-raw)
+returns-in-ByOffer c = rw (c.in-ByOffer.is, ← c.offer.ensures, ← c.offer-in-ByOffer.ensures) c.same_bytes-in-ByOffer.ensures
 
-pub returns-then-join-eq-BY_OFFER : goal.returns-then-join-eq-BY_OFFER
+pub returns-then-same_bytes : goal.returns-then-same_bytes
 unfolding joins
-returns-then-join-eq-BY_OFFER c = rw (ne_eqb _ _ c.if-join-eq-BY_CODE.false, ← c.offer.ensures, ← c.offer-2.ensures, ← c.same_bytes-2.ensures, not-false c.same_bytes-2.result c.if-not-same_bytes.false-raw, eq-eqb _ _ c.if-join-eq-BY_OFFER.true)
+returns-then-same_bytes c =
+    rw (c.in-ByOfferAndRailway.is, ← c.offer-in-ByOfferAndRailway.ensures, ← c.offer-in-ByOfferAndRailway-2.ensures, ← c.same_bytes-in-ByOfferAndRailway.ensures, c.if-same_bytes.true) c.railway_serves.ensures
 
-pub returns : goal.returns
+pub returns-else-same_bytes : goal.returns-else-same_bytes
 unfolding joins
-returns c = rw (ne_eqb _ _ c.if-join-eq-BY_CODE.false, ← c.offer.ensures, ← c.offer-2.ensures, ← c.same_bytes-2.ensures, not-false c.same_bytes-2.result c.if-not-same_bytes.false-raw, ne_eqb _ _ c.if-join-eq-BY_OFFER.false, c.railway_serves.ensures)
+returns-else-same_bytes c =
+    rw (c.in-ByOfferAndRailway.is, ← c.offer-in-ByOfferAndRailway.ensures, ← c.offer-in-ByOfferAndRailway-2.ensures, ← c.same_bytes-in-ByOfferAndRailway.ensures, c.if-same_bytes.false)

@@ -8,10 +8,10 @@ pub returns-then-link-table : goal.returns-then-link-table
 unfolding is_asked
 returns-then-link-table c = rw (ne_eqb _ _ c.if-link-table.true)
 
-pub returns-then-link-eq-ALWAYS : goal.returns-then-link-eq-ALWAYS
+pub returns-in-None : goal.returns-in-None
 unfolding is_asked
-returns-then-link-eq-ALWAYS c = rw (eq-eqb _ _ c.if-link-table.false, eq-eqb _ _ c.if-link-eq-ALWAYS.true)
+returns-in-None c = rw (eq-eqb _ _ c.if-link-table.false, c.in-None.is)
 
-pub returns : goal.returns
+pub returns-in-Some : goal.returns-in-Some
 unfolding is_asked
-returns c = rw (eq-eqb _ _ c.if-link-table.false, ne_eqb _ _ c.if-link-eq-ALWAYS.false, c.is_yes.ensures)
+returns-in-Some c = rw (eq-eqb _ _ c.if-link-table.false, c.in-Some.is) c.is_yes.ensures

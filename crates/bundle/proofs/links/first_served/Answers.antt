@@ -21,7 +21,7 @@ unfolding any
 returns-in_default c =
     let i = c.loop-t.invariant in
     let o = over_nil _ _ _ i.1 (over_there _ _ c.step_at-here.result c.in_default.not-Whole c.step_at-here.ensures) in
-    ((λ l. absurd (omega arith)), λ l. i.2 ∙ rw o)
+    i.2 ∙ rw o
 
 pub slice_bounds-serves_it-count : goal.slice_bounds-serves_it-count
 slice_bounds-serves_it-count c =
@@ -42,10 +42,8 @@ pub returns-then-serves_it : goal.returns-then-serves_it
 returns-then-serves_it c =
     let found : Stands c.args.bundle.now c.loop-t.at c.loop-t.invariant.0 c.in-Whole.t c.in-Whole.start c.in-Whole.next = stands _ _ _ c.loop-t.invariant.1 c.step_at-here.ensures c.in-Whole.is in
     let w = found in
-    let i = c.loop-t.invariant in (
-      (λ l. ((i.0, w.place), at_any _ no_rec _ i.0 w.below (rw w.at (sym c.serves_it.ensures ∙ c.if-serves_it.true)))),
-      λ l. absurd (omega (arith, w.starts, w.ends, w.inside)),
-    )
+    let i = c.loop-t.invariant in
+    ((i.0, w.place), at_any _ no_rec _ i.0 w.below (rw w.at (sym c.serves_it.ensures ∙ c.if-serves_it.true)))
 
 pub loop-t-smaller-else-serves_it : goal.loop-t-smaller-else-serves_it
 loop-t-smaller-else-serves_it c =

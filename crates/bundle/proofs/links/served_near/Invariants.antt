@@ -1,11 +1,8 @@
 -- `bundle::links::served_near` meets its contract. The loop's invariant: the loop stands at some record, or where the records end.
 -- Assumes nothing.
-use Prim.Native.Nat.{ℕ, ◌-◌}
+use Prim.Native.Nat.{ℕ}
 use Rattle.bundle.proofs.Here.{Here}
 use Rattle.bundle.proofs.links.served_near.Given as goal
 
-abbrev pub invariant-loop-k : goal.invariant-loop-k
-invariant-loop-k l = (j : ℕ) × Here l.bundle l.at j
-
-abbrev pub decreases-loop-k : goal.decreases-loop-k
-decreases-loop-k l = 64 - l.k
+abbrev pub invariant-loop : goal.invariant-loop
+invariant-loop l = (j : ℕ) × Here l.bundle l.at j
