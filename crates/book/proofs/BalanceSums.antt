@@ -1,23 +1,23 @@
 -- What an entry and a book come to, as the code adds it up: a turn for each leg and for each entry. Each sum fits, since each word is at most 4,294,967,295.
 -- Assumes nothing.
-use Prim.Native.Nat.{ℕ, ◌+◌, ◌-◌, ◌*◌, ◌≤◌, ◌<◌}
+use Prim.Native.Nat.{ℕ, ◌+◌, ◌*◌, ◌≤◌, ◌<◌}
 use mathlib.Core.Path.{◌≡◌, refl, sym, ◌∙◌, ap}
 use mathlib.Core.Bool.{Bool, true, false, cond, ◌||◌}
 use mathlib.Core.List.{List, [], ◌∷◌, map, map-append}
 use native.Mathlib.Numerals.{add-one}
 use native.Mathlib.Omega.{arith}
 use lib.Dec.{eqb}
-use lib.ListN.{get_or, take, drop}
+use lib.ListN.{get_or}
 use borrow.Author.Tests.{ne_eqb}
 use Rattle.common.specs.Lists.{sum, up_to}
 use Rattle.common.proofs.Sums.{sum_append, sum_up_small}
 use Rattle.common.proofs.Tests.{in_range}
 use Rattle.layout.specs.Company.{is_railway}
-use Rattle.book.specs.Words.{Entry, width, count_of, railway_at, entry_of, entry_words, entry_at, entries, asked_at, parts_at, start_of, legs_at, leg_width}
+use Rattle.book.specs.Words.{Entry, count_of, railway_at, entry_of, entry_words, entry_at, entries, asked_at, parts_at, start_of, legs_at, leg_width}
 use Rattle.book.specs.Amounts.{of_railway, of_all, live_amount, balance_of}
 use Rattle.book.specs.Helpers.{counted}
 use Rattle.book.proofs.SoundBook.{most}
-use Rattle.book.proofs.EntryWords.{word_at, block_lent, part_at, railway_at_lem}
+use Rattle.book.proofs.EntryWords.{word_at, part_at, railway_at_lem}
 
 -- what leg j of an entry comes to for a railway, or for all: its part if it counts, and else nothing
 abbrev pub counted_part : ℕ → List ℕ → List ℕ → ℕ → ℕ
@@ -94,12 +94,8 @@ module _ (f : List ℕ → List ℕ → ℕ) (w : List ℕ) where
   pub sum_start : Summed f w 0 0
   sum_start = (omega arith, sym (balance_none f (entry_at w)))
 
-  pub sum_turn : Small w f → (i total r : ℕ) → Summed f w i total
-      → r ≡ live_amount f (entry_of (take (start_of i + width - (start_of i)) (drop (start_of i) w)))
-      → Summed f w (i + 1) (total + r)
-  sum_turn s i total r t e =
-      let d : r ≡ live_amount f (entry_at w i) = e ∙ ap (λ b. live_amount f (entry_of b)) (block_lent w i) in
-      (omega (arith, live_small f w s i), omega (arith, balance_more f (entry_at w) i))
+  pub sum_turn : Small w f → (i total r : ℕ) → Summed f w i total → r ≡ live_amount f (entry_at w i) → Summed f w (i + 1) (total + r)
+  sum_turn s i total r t e = (omega (arith, live_small f w s i), omega (arith, balance_more f (entry_at w) i))
 
   pub sum_end : (i total : ℕ) → i ≡ count_of w → Summed f w i total → total ≡ balance_of f (entries w)
   unfolding entries

@@ -1,41 +1,25 @@
 -- The words of an entry as a part of the book's: read there, changed there, and put there. An entry and its words say each other.
 -- Assumes nothing.
-use Prim.Native.Nat.{ℕ, ◌+◌, ◌-◌, ◌*◌, ◌≤◌, ◌<◌}
+use Prim.Native.Nat.{ℕ, zero, suc, ◌+◌, ◌-◌, ◌*◌, ◌≤◌, ◌<◌}
 use mathlib.Core.Path.{◌≡◌, refl, sym, ◌∙◌, ap}
-use mathlib.Core.List.{List, [], ◌∷◌, ◌++◌, append_assoc}
-use native.Mathlib.Nat.{add-zero, add_assoc, add-sub_cancel_left}
+use mathlib.Core.List.{List, [], ◌∷◌, ◌++◌, map, append_assoc}
+use native.Mathlib.Nat.{add-zero, add_assoc}
 use native.Mathlib.Omega.{arith}
 use lib.ListN.{length, get_or, take, drop, set, replicate, length-append, length-drop, take-append-drop}
-use lib.Seq.{get_or-take, get_or-drop, drop-cons, drop-drop, drop-set-lt, drop-set-add, take-set-lt, take-set-le, get_or-set_same, get_or-set_other, take-take, take_at, drop_at, take_all, length-take-le, take-append-add, paste, take-paste, drop-paste, length-paste}
-use Rattle.common.proofs.Lists.{part_front, upto_at}
+use lib.Seq.{ext_get_or, get_or-take, get_or-drop, drop-cons, drop-drop, drop-set-lt, drop-set-add, take-set-lt, take-set-le, get_or-set_same, get_or-set_other, take_at, drop_at, take_all, length-take-le, take-append-add, paste, take-paste, drop-paste, length-paste}
+use Rattle.std.specs.Simd.{first_chunks}
+use Rattle.common.specs.Lists.{up_to}
+use Rattle.common.proofs.Lists.{part_front, upto_length, upto_at}
 use Rattle.common.proofs.Parts.{part_rest}
 use Rattle.fares.specs.Meaning.{card_at}
 use Rattle.fares.specs.declared.Question.{Question}
 use Rattle.book.specs.Words.{Entry, cards_at, cards_width, count_at, legs_at, leg_width, railway_at, card_in, question_of, entry_words, entry_at, asked_at, parts_at, status_at, spare_at, till_at, sequence_at, width, question_width, question_words, entry_of, words_of, booking, start_of}
+use Rattle.book.proofs.Each.{mapped}
 use Rattle.book.proofs.QuestionWords.{words_length}
 
--- READ: word k of entry i, some of its words, and all of them, as the code lends them
+-- READ: word k of entry i
 pub word_at : (w : List ℕ) (i k : ℕ) → k < width → get_or (entry_words w i) k 0 ≡ get_or w (start_of i + k) 0
 word_at w i k l = get_or-take width (drop (start_of i) w) k 0 l ∙ get_or-drop (start_of i) w k 0
-
-part_of : (w : List ℕ) (i k m : ℕ) → k + m ≤ width → take m (drop (start_of i + k) w) ≡ take m (drop k (entry_words w i))
-part_of w i k m l =
-    let e : width ≡ k + (width - k) = omega arith in
-    let r = part_rest k (width - k) (drop (start_of i) w) in
-    sym
-    (ap (λ n. take m (drop k (take n (drop (start_of i) w)))) e
-    ∙ (ap (take m) r ∙ (take-take m (width - k) (drop k (drop (start_of i) w)) (omega arith) ∙ ap (take m) (drop-drop k (start_of i) w))))
-
-pub asked_lent : (w : List ℕ) (i : ℕ) → take ((start_of i + parts_at) - (start_of i + asked_at)) (drop (start_of i + asked_at) w) ≡ (entry_at w i).asked
-asked_lent w i =
-    let n : (start_of i + parts_at) - (start_of i + asked_at) ≡ question_width = omega arith in
-    rw n (part_of w i asked_at question_width (omega arith))
-
-pub parts_lent : (w : List ℕ) (i : ℕ) → take 8 (drop (start_of i + parts_at) w) ≡ (entry_at w i).parts
-parts_lent w i = part_of w i parts_at 8 (omega arith)
-
-pub block_lent : (w : List ℕ) (i : ℕ) → take (start_of i + width - start_of i) (drop (start_of i) w) ≡ entry_words w i
-block_lent w i = ap (λ n. take n (drop (start_of i) w)) (add-sub_cancel_left (start_of i) width)
 
 -- in words that are an entry's: a part, the railway of a leg, a card, the leg count, and the parts from there on
 pub part_at : (b : List ℕ) (j : ℕ) → j < 8 → get_or (take 8 (drop parts_at b)) j 0 ≡ get_or b (parts_at + j) 0
@@ -196,3 +180,27 @@ module _ (w : List ℕ) (at t s : ℕ) (q : Question) (parts : List ℕ) (eight 
       ∙ rw (ec, eb, ea, i, n, eight, put_behind w number (question_words q) at 2 question_width refl n (omega arith), put_behind w (number ++ question_words q) parts at parts_at 8 m eight (omega arith), put_behind w ((number ++ question_words q) ++ parts) (replicate 3 0) at status_at 3 k refl (omega arith))
       (ap (λ ws. paste w at (t ∷ s ∷ ws) width) (append_assoc (question_words q) parts (replicate 3 0))) in
       (p, ap length p ∙ length-paste w at (words_of new) width h (omega (arith, (words_back new new_whole).1)))
+
+-- THE WORDS OF THE FIRST ENTRIES, cut from the book as blocks
+block_is : (m : ℕ) (s : List ℕ) (i : ℕ) → i < m → get_or (first_chunks width m s) i [] ≡ take width (drop (i * width) s)
+block_is zero s i l = absurd (omega arith)
+block_is (suc m) s zero l = refl
+block_is (suc m) s (suc i) l =
+    let e : width + i * width ≡ suc i * width = omega arith in
+    block_is m (drop width s) i (omega arith) ∙ ap (take width) (drop-drop (i * width) width s ∙ ap (λ k. drop k s) e)
+
+blocks_length : (m : ℕ) (s : List ℕ) → length (first_chunks width m s) ≡ m
+blocks_length zero s = refl
+blocks_length (suc m) s = ap suc (blocks_length m (drop width s))
+
+pub first_blocks : (w : List ℕ) (n m : ℕ) → n ≤ m → take n (first_chunks width m (drop 1 w)) ≡ up_to (entry_words w) n
+first_blocks w n m l =
+    let b = first_chunks width m (drop 1 w) in
+    let k : length (take n b) ≡ n = length-take-le n b (omega (arith, blocks_length m (drop 1 w))) in
+    ext_get_or [] (take n b) (up_to (entry_words w) n) (k ∙ sym (upto_length (entry_words w) n))
+    (λ i h. let j : i < n = omega (arith, k) in
+    get_or-take n b i [] j
+    ∙ (block_is m (drop 1 w) i (omega arith) ∙ (ap (take width) (drop-drop (i * width) 1 w) ∙ sym (upto_at (entry_words w) n i [] j))))
+
+pub first_entries : (w : List ℕ) (n : ℕ) → map entry_of (up_to (entry_words w) n) ≡ up_to (entry_at w) n
+first_entries w n = mapped entry_of (entry_words w) n

@@ -1,3 +1,4 @@
+pub mod Each
 pub mod ComparedWords
 pub mod QuestionPlaces
 pub mod QuestionWords

@@ -2,26 +2,22 @@
 -- A number that ranks above all earlier ones repeats none of them.
 -- Assumes nothing.
 use Prim.Native.Nat.{ℕ, ◌+◌, ◌≤◌, ◌<◌}
-use mathlib.Core.Path.{◌≡◌, refl, ap, subst}
-use mathlib.Core.Bool.{Bool, true, false}
+use mathlib.Core.Path.{◌≡◌, refl, subst}
+use mathlib.Core.Bool.{Bool, true, false, cond}
 use mathlib.Core.List.{List, [], ◌∷◌, ◌++◌}
 use mathlib.Core.Logic.{◌⊎◌, inl, inr, ⊎_elim}
-use native.Mathlib.Nat.{add-zero}
 use native.Mathlib.Omega.{arith}
 use lib.Dec.{eqb, ltb}
-use lib.ListN.{length, get_or, length-append, get_or-append}
-use lib.Seq.{get_or_at}
-use borrow.Author.Tests.{eqb-true, eq-eqb, ne_eqb}
+use lib.ListN.{length, get_or, take, length-append, get_or-append}
+use lib.Seq.{get_or_at, get_or-take, length-take-le}
+use Rattle.std.proofs.Common.{Some, None, is_some}
+use borrow.Author.Tests.{eqb-true, eq-eqb, ne_eqb, lt-ltb, le-ltb}
 use Rattle.common.specs.Least.{least}
-use Rattle.common.specs.Lists.{up_to}
 use Rattle.common.proofs.Least.{hit, none, before, passes, finds_none, none_finds, alike}
-use Rattle.common.proofs.Lists.{upto_length, upto_at}
 use Rattle.common.proofs.Tests.{order, side, never, both_true, refuted}
-use Rattle.book.specs.Words.{Entry, no_entry, till_at, sequence_at, start_of, count_of, entries, entry_at}
-use Rattle.book.specs.Sound.{has_number, held_at, repeats, numbers_differ}
-use Rattle.book.specs.Helpers.{held_before, rank, RanksUpTo, repeats_earlier}
-use Rattle.book.proofs.EntryWords.{word_at}
-use Rattle.book.proofs.SoundBook.{entry_is, entries_length}
+use Rattle.book.specs.Words.{Entry, no_entry}
+use Rattle.book.specs.Sound.{has_number, held_at, held, repeats, numbers_differ}
+use Rattle.book.specs.Helpers.{rank_of, RanksUpTo}
 
 pub has_number_lem : (t s : ℕ) (e : Entry) → has_number t s e ≡ true → (e.till ≡ t) × (e.sequence ≡ s)
 has_number_lem t s e h = let b = both_true (eqb e.till t) (eqb e.sequence s) h in (eqb-true e.till t b.0, eqb-true e.sequence s b.1)
@@ -64,12 +60,29 @@ module _ (t s : ℕ) (es : List Entry) where
   pub held_not_elsewhere : numbers_differ es ≡ true → (j : ℕ) → j < length es → (j ≡ held_at t s es → ⊥) → has_number t s (get_or es j no_entry) ≡ false
   held_not_elsewhere d j l n = refuted (has_number t s (get_or es j no_entry)) (λ p. n (omega (arith, held_only d j l p)))
 
--- by the entries at their places
-pub held_is : (w : List ℕ) (t s : ℕ) → held_at t s (entries w) ≡ held_before w (count_of w) t s
-unfolding held_at
-held_is w t s =
-    rw (entries_length w)
-    (alike (λ i. has_number t s (get_or (entries w) i no_entry)) (λ i. has_number t s (entry_at w i)) (count_of w) (λ i l. ap (has_number t s) (entry_is w i l)))
+-- A SEARCH among entries: it comes to one that has the number, or to the end, or has passed those in front
+module _ (t s : ℕ) (es : List Entry) where
+  abbrev pub has_it : ℕ → Bool
+  has_it k = has_number t s (get_or es k no_entry)
+
+  pub comes_to : (i : ℕ) → least has_it i ≡ i → has_it i ≡ true → i < length es → held t s es ≡ Some i
+  unfolding held_at
+  comes_to i e h l = rw (hit has_it i (length es) e h l, lt-ltb i (length es) l)
+
+  pub comes_to_none : least has_it (length es) ≡ length es → held t s es ≡ None
+  unfolding held_at
+  comes_to_none e = rw (e, le-ltb (length es) (length es) (omega arith))
+
+  pub in_front : (i : ℕ) → i ≤ length es → is_some (held t s (take i es)) ≡ ltb (least has_it i) i
+  unfolding held_at
+  in_front i l =
+      let n : length (take i es) ≡ i = length-take-le i es l in
+      let e : least (λ k. has_number t s (get_or (take i es) k no_entry)) i ≡ least has_it i = alike _ _ i (λ k h. rw (get_or-take i es k no_entry h)) in
+      rw (n, e) (told (least has_it i) (ltb (least has_it i) i))
+    where
+      told : (k : ℕ) (b : Bool) → is_some (cond b (Some k) None) ≡ b
+      told k true = refl
+      told k false = refl
 
 -- AN ENTRY ADDED, with a number that no entry has
 module _ (es : List Entry) (e : Entry) where
@@ -89,42 +102,28 @@ module _ (es : List Entry) (e : Entry) where
           rw (z, get_or_at es e [] no_entry (length es) refl, old j (omega arith)) (held_not_before e.till e.sequence es j (omega (arith, p)))
 
 -- AS THE CODE FINDS IT: an entry that repeats a number, after none that does, and none at all
-module _ (f : ℕ → Entry) (n : ℕ) where
-  pub repeats_at : (i : ℕ) → i < n → repeats (up_to f n) i ≡ ltb (least (λ j. has_number (f i).till (f i).sequence (f j)) i) i
-  repeats_at i l =
-      let e : least (λ j. has_number (f i).till (f i).sequence (get_or (up_to f n) j no_entry)) i ≡ least (λ j. has_number (f i).till (f i).sequence (f j)) i =
-      alike _ _ i (λ j h. rw (upto_at f n j no_entry (omega arith))) in
-      rw (upto_at f n i no_entry l, e)
-
-  pub number_repeats : (i : ℕ) → i < n → least (repeats (up_to f n)) i ≡ i → repeats (up_to f n) i ≡ true → numbers_differ (up_to f n) ≡ false
+module _ (es : List Entry) where
+  pub number_repeats : (i : ℕ) → i < length es → least (repeats es) i ≡ i → repeats es i ≡ true → numbers_differ es ≡ false
   unfolding numbers_differ
-  number_repeats i l e h = rw (upto_length f n, hit (repeats (up_to f n)) i n e h l) (ne_eqb i n (λ q. omega arith))
+  number_repeats i l e h = rw (hit (repeats es) i (length es) e h l) (ne_eqb i (length es) (λ q. omega arith))
 
-  pub none_repeats : least (repeats (up_to f n)) n ≡ n → numbers_differ (up_to f n) ≡ true
+  pub none_repeats : least (repeats es) (length es) ≡ length es → numbers_differ es ≡ true
   unfolding numbers_differ
-  none_repeats e = rw (upto_length f n, e) (eq-eqb n n refl)
+  none_repeats e = rw e (eq-eqb (length es) (length es) refl)
 
--- RANKS
-module _ (w : List ℕ) where
-  abbrev rank_of : ℕ → ℕ
-  rank_of i = rank (entry_at w i).till (entry_at w i).sequence
-
-  -- by the words of the entry
-  pub rank_words : (i : ℕ) → rank (get_or w (start_of i) 0) (get_or w (start_of i + sequence_at) 0) ≡ rank_of i
-  rank_words i = rw (word_at w i till_at (omega arith), word_at w i sequence_at (omega arith), add-zero)
-
-  -- an entry that ranks lower has another number
-  pub above_none : (i top : ℕ) → RanksUpTo w i top → top < rank_of i → repeats_earlier w i ≡ false
+  -- RANKS: an entry that ranks above those before it has another number
+  pub above_none : (i top : ℕ) → RanksUpTo es i top → top < rank_of (get_or es i no_entry) → repeats es i ≡ false
   above_none i top f h =
-      none_finds (λ j. has_number (entry_at w i).till (entry_at w i).sequence (entry_at w j)) i
-      (λ j l. refuted (has_number (entry_at w i).till (entry_at w i).sequence (entry_at w j))
-      (λ e. let d = has_number_lem (entry_at w i).till (entry_at w i).sequence (entry_at w j) e in omega (arith, d.0, d.1, f j l, h)))
+      let e = get_or es i no_entry in
+      none_finds (λ j. has_number e.till e.sequence (get_or es j no_entry)) i
+      (λ j l. refuted (has_number e.till e.sequence (get_or es j no_entry))
+      (λ p. let d = has_number_lem e.till e.sequence (get_or es j no_entry) p in omega (arith, d.0, d.1, f j l, h)))
 
-  pub ranks_none : (top : ℕ) → RanksUpTo w 0 top
+  pub ranks_none : (top : ℕ) → RanksUpTo es 0 top
   ranks_none top j l = absurd (omega arith)
 
-  pub ranks_more : (i top most : ℕ) → RanksUpTo w i top → top ≤ most → rank_of i ≤ most → RanksUpTo w (i + 1) most
+  pub ranks_more : (i top most : ℕ) → RanksUpTo es i top → top ≤ most → rank_of (get_or es i no_entry) ≤ most → RanksUpTo es (i + 1) most
   ranks_more i top most f a b j l =
       ⊎_elim (λ h. omega (arith, f j h))
-      (λ h. let e : i ≡ j = omega arith in subst (λ k. rank_of k ≤ most) e b)
+      (λ h. let e : i ≡ j = omega arith in subst (λ k. rank_of (get_or es k no_entry) ≤ most) e b)
       (side j i)

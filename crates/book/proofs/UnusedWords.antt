@@ -15,7 +15,7 @@ use Rattle.common.proofs.Tests.{side, never, both_true, refuted}
 use Rattle.fares.specs.Question.{no_leg, leg_in_limits, legs_of, card_slots, cards_in_limits, cards_differ}
 use Rattle.fares.specs.Helpers.{trip_in_limits}
 use Rattle.fares.specs.declared.Question.{Question}
-use Rattle.fares.proofs.QuestionLimits.{limits_apart}
+use Rattle.fares.proofs.QuestionLimits.{limits_apart, trip_few}
 use Rattle.book.specs.Words.{more_pairs_at, more_pairs_width, railway_at, fare_at, third_at, fourth_at, question_width, leg_of, question_of, question_words, asked_at}
 use Rattle.book.specs.Sound.{is_zero, asked_sound}
 use Rattle.book.specs.Meaning.{Used, till, sequence, offer, day, persons, card, count, railway, fare, part, status}
@@ -139,3 +139,17 @@ module _ (ws : List ℕ) (long : length ws ≡ question_width) (few : (question_
       go true false legs differ unused = refl
       go true true true differ unused = rw (and-true unused) refl
       go true true false differ unused = rw (and-false unused, and-false differ) refl
+
+-- THE TESTS IN THEIR ORDER, whatever the words say
+pub sound_tests : (ws : List ℕ) → length ws ≡ question_width → let q = question_of ws in
+    asked_sound ws ≡ (trip_in_limits q.offer q.day q.persons q.count
+    && (cards_in_limits (card_slots q) && (cards_differ (card_slots q) && (unused_zero ws q.count && every leg_in_limits (up_to (leg_of ws) q.count)))))
+sound_tests ws long = go (trip_in_limits q.offer q.day q.persons q.count) refl
+  where
+    q : Question
+    q = question_of ws
+
+    go : (b : Bool) → trip_in_limits q.offer q.day q.persons q.count ≡ b → asked_sound ws ≡ (trip_in_limits q.offer q.day q.persons q.count
+        && (cards_in_limits (card_slots q) && (cards_differ (card_slots q) && (unused_zero ws q.count && every leg_in_limits (up_to (leg_of ws) q.count)))))
+    go true e = sound_apart ws long (trip_few _ _ _ _ e)
+    go false e = rw (limits_apart q, e)

@@ -1,27 +1,18 @@
 -- Short names that contracts of inner functions and proofs use. Nothing here has to be believed: no contract of the engine's calls and no promise reaches it.
 -- Assumes nothing.
-use Rattle.std.specs.Prelude.{ℕ, ◌+◌, ◌*◌, ◌≤◌, ◌<◌, Bool, cond, ◌&&◌, List, [], ◌∷◌, eqb, ltb, get_or, take, drop}
-use Rattle.common.specs.Least.{least}
+use Rattle.std.specs.Prelude.{ℕ, ◌+◌, ◌*◌, ◌≤◌, ◌<◌, Bool, cond, ◌&&◌, List, [], ◌∷◌, eqb, get_or, take, drop}
 use Rattle.common.specs.Lists.{every, up_to}
-use Rattle.book.specs.Words.{pairs_at, more_pairs_at, more_pairs_width, railway_at, third_at, fourth_at, entry_at}
-use Rattle.book.specs.Sound.{is_zero, has_number}
+use Rattle.book.specs.Words.{Entry, no_entry, pairs_at, more_pairs_at, more_pairs_width, railway_at, third_at, fourth_at}
+use Rattle.book.specs.Sound.{is_zero}
 use Rattle.book.specs.Amounts.{of_railway, of_all}
 
--- the first of n entries that has the number, n where none has it
-abbrev pub held_before : List ℕ → ℕ → ℕ → ℕ → ℕ
-held_before book n till sequence = least (λ i. has_number till sequence (entry_at book i)) n
-
 -- A SALE NUMBER AS ONE NUMBER: by till, and then by sequence, which is below 4,294,967,296. One that ranks above all earlier ones repeats none of them.
-abbrev pub rank : ℕ → ℕ → ℕ
-rank till sequence = till * 4294967296 + sequence
+abbrev pub rank_of : Entry → ℕ
+rank_of e = e.till * 4294967296 + e.sequence
 
 -- no entry before i ranks above a number
-abbrev pub RanksUpTo : List ℕ → ℕ → ℕ → Type 0
-RanksUpTo book i top = (j : ℕ) → j < i → rank (entry_at book j).till (entry_at book j).sequence ≤ top
-
--- entry i has the number of an earlier one
-abbrev pub repeats_earlier : List ℕ → ℕ → Bool
-repeats_earlier book i = ltb (held_before book i (entry_at book i).till (entry_at book i).sequence) i
+abbrev pub RanksUpTo : List Entry → ℕ → ℕ → Type 0
+RanksUpTo es i top = (j : ℕ) → j < i → rank_of (get_or es j no_entry) ≤ top
 
 -- WHAT A QUESTION OF n LEGS DOES NOT USE among its words is zero: two words of each leg, the category, further pairs, and the legs from n on
 abbrev pub leg_clear : List ℕ → ℕ → Bool

@@ -1,6 +1,6 @@
 -- When a book is sound, number 21 (document 01, 'The sales book').
 -- Assumes nothing.
-use Rattle.std.specs.Prelude.{ℕ, Bool, ◌&&◌, List, [], ◌∷◌, eqb, leb, ltb, length, get_or, drop}
+use Rattle.std.specs.Prelude.{ℕ, Bool, cond, ◌&&◌, List, [], ◌∷◌, Option, Some, None, eqb, leb, ltb, length, get_or, drop}
 use Rattle.common.specs.Least.{least}
 use Rattle.common.specs.Lists.{every, same}
 use Rattle.fares.specs.Question.{between, card_slots, cards_of, cards_differ, in_limits}
@@ -47,6 +47,10 @@ has_number till sequence e = eqb e.till till && eqb e.sequence sequence
 -- the first entry that has the number; the number of the entries where none has it
 unfoldable pub held_at : ℕ → ℕ → List Entry → ℕ
 held_at till sequence es = least (λ i. has_number till sequence (get_or es i no_entry)) (length es)
+
+-- its place, if an entry has the number
+abbrev pub held : ℕ → ℕ → List Entry → Option ℕ
+held till sequence es = let i : ℕ = held_at till sequence es in cond (ltb i (length es)) (Some i) None
 
 -- entry i has the number of an earlier one
 abbrev pub repeats : List Entry → ℕ → Bool

@@ -12,11 +12,8 @@ fn put(book: &mut [u32], at: usize, words: &[u32])
     requires { at + length words.now ≤ length book.old }
     ensures { book.new ≡ paste book.old at words.now (length words.now) }
 {
-    let mut k = 0;
-    while k < words.len() {
-        book[at + k] = words[k];
-        k += 1;
-    }
+    let end = at + words.len();
+    book[at..end].copy_from_slice(words);
 }
 
 // One entry at the end, and the count with it.

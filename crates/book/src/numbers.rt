@@ -1,67 +1,54 @@
 // The sale numbers of a book's entries: one looked for among them, and that they differ.
-ghost use Rattle.std.specs.Prelude.{◌≡◌, ◌+◌, ◌≤◌, ◌<◌, length, get_or};
-ghost use Rattle.common.specs.Lists.{up_to};
-ghost use Rattle.book.specs.Words.{capacity, width, sequence_at, start_of, entry_at};
-ghost use Rattle.book.specs.Sound.{numbers_differ};
-ghost use Rattle.book.specs.Helpers.{held_before, rank, RanksUpTo, repeats_earlier};
+ghost use Rattle.std.specs.Prelude.{◌≡◌, ◌<◌, length, map};
+ghost use Rattle.book.specs.Words.{entry_of};
+ghost use Rattle.book.specs.Sound.{held, repeats, numbers_differ};
+ghost use Rattle.book.specs.Helpers.{rank_of, RanksUpTo};
 
-use super::words::{ENTRIES, SEQUENCE, WIDTH};
+use super::words::{SEQUENCE, TILL, WIDTH};
 
-// The first of n entries that has the number, n where none has it.
-pub fn find_before(book: &[u32], n: usize, till: u32, sequence: u32) -> usize
-    requires { start_of n ≤ length book.now }
-    ensures { result ≡ held_before book.now n till sequence }
+// Where the first of some entries that has a number stands.
+pub fn find_in(entries: &[[u32; WIDTH]], till: u32, sequence: u32) -> Option<usize>
+    ensures { result ≡ held till sequence (map entry_of entries.now) }
 {
-    let mut i = 0;
-    let mut at = ENTRIES;
-    while i < n {
-        // the sequence first: it is the one that tells the entries of a till apart
-        if book[at + SEQUENCE] == sequence {
-            if book[at] == till {
-                return i;
+    // the sequence first: it is the one that tells the entries of a till apart
+    for (i, words) in entries.iter().enumerate() {
+        if words[SEQUENCE] == sequence {
+            if words[TILL] == till {
+                return Some(i);
             }
         }
-        i += 1;
-        at += WIDTH;
     }
-    n
+    None
 }
 
-// The sale number of the entry that starts at a place, as one number.
-fn rank_at(book: &[u32], at: usize) -> u64
-    requires { at + 2 ≤ length book.now }
-    ensures { result ≡ rank (get_or book.now at 0) (get_or book.now (at + sequence_at) 0) }
+// The sale number of an entry, as one number.
+fn rank(words: &[u32; WIDTH]) -> u64
+    ensures { result ≡ rank_of (entry_of words.now) }
 {
-    (book[at] as u64) * 4294967296 + (book[at + SEQUENCE] as u64)
+    (words[TILL] as u64) * 4294967296 + (words[SEQUENCE] as u64)
 }
 
 // Whether entry i has the number of an earlier one, none of which ranks above `top`. Only a number that does not rank above them is looked for.
-fn repeats_earlier(book: &[u32], i: usize, top: u64) -> bool
-    requires { (i < capacity) × (start_of i + width ≤ length book.now) × RanksUpTo book.now i top }
-    ensures { result ≡ repeats_earlier book.now i }
+fn repeats_earlier(entries: &[[u32; WIDTH]], i: usize, top: u64) -> bool
+    requires { (i < length entries.now) × RanksUpTo (map entry_of entries.now) i top }
+    ensures { result ≡ repeats (map entry_of entries.now) i }
 {
-    let at = ENTRIES + i * WIDTH;
-    if top < rank_at(book, at) {
+    let words = &entries[i];
+    if top < rank(words) {
         return false;
     }
-    find_before(book, i, book[at], book[at + SEQUENCE]) < i
+    find_in(&entries[..i], words[TILL], words[SEQUENCE]).is_some()
 }
 
-pub fn numbers_differ(book: &[u32], n: usize) -> bool
-    requires { (n ≤ capacity) × (start_of n ≤ length book.now) }
-    ensures { result ≡ numbers_differ (up_to (entry_at book.now) n) }
+pub fn numbers_differ(entries: &[[u32; WIDTH]]) -> bool
+    ensures { result ≡ numbers_differ (map entry_of entries.now) }
 {
     let mut top: u64 = 0;
-    let mut i = 0;
-    while i < n {
-        if repeats_earlier(book, i, top) {
+    for (i, words) in entries.iter().enumerate() {
+        if repeats_earlier(entries, i, top) {
             return false;
         }
-        let rank = rank_at(book, ENTRIES + i * WIDTH);
-        if top < rank {
-            top = rank;
-        }
-        i += 1;
+        top = top.max(rank(words));
     }
     true
 }

@@ -1,13 +1,13 @@
 // When a book is sound, and a sale number within its limits.
-ghost use Rattle.std.specs.Prelude.{◌≡◌, ◌+◌, ◌*◌, ◌≤◌, ◌<◌, length, true};
+ghost use Rattle.std.specs.Prelude.{◌≡◌, ◌≤◌, map};
 ghost use Rattle.common.specs.Lists.{every, up_to};
 ghost use Rattle.fares.specs.Question.{leg_in_limits};
-ghost use Rattle.book.specs.Words.{capacity, start_of, width, question_width, leg_of, question_of, entry_of, entry_at};
+ghost use Rattle.book.specs.Words.{leg_of, question_of, entry_of};
 ghost use Rattle.book.specs.Sound.{number_in_limits, asked_sound, entry_sound, sound_words};
 
 use super::words::{
     ASKED, CAPACITY, COUNT, DAY, ENTRIES, ENTRY_COUNT, LEG_COUNT, LENGTH, OFFER, PARTS, PERSONS,
-    SEQUENCE, SPARE, STATUS, TILL, WIDTH,
+    QUESTION_WIDTH, SEQUENCE, SPARE, STATUS, TILL, WIDTH,
 };
 
 // Whether a sale number is within its limits.
@@ -27,23 +27,21 @@ pub fn is_number(till: u32, sequence: u64) -> bool
 }
 
 // Whether the first legs that words say are within their limits.
-fn legs_in_limits(words: &[u32], count: usize) -> bool
-    requires { (length words.now ≡ question_width) × (count ≤ 8) }
+fn legs_in_limits(words: &[u32; QUESTION_WIDTH], count: usize) -> bool
+    requires { count ≤ 8 }
     ensures { result ≡ every leg_in_limits (up_to (leg_of words.now) count) }
 {
-    let mut j = 0;
-    while j < count {
+    for j in 0..count {
         if !fares::limits::leg_in_limits(super::words::leg_in(words, j)) {
             return false;
         }
-        j += 1;
     }
     true
 }
 
 // Whether words are sound, given the cards that they say. They are looked at where they stand: a question made of them would have to be written first.
-fn asked_sound(words: &[u32], cards: [u32; 4]) -> bool
-    requires { (length words.now ≡ question_width) × (cards ≡ (question_of words.now).cards) }
+fn asked_sound(words: &[u32; QUESTION_WIDTH], cards: [u32; 4]) -> bool
+    requires { cards ≡ (question_of words.now).cards }
     ensures { result ≡ asked_sound words.now }
 {
     let count = words[COUNT];
@@ -63,15 +61,15 @@ fn asked_sound(words: &[u32], cards: [u32; 4]) -> bool
 }
 
 // Whether the words of an entry are sound.
-fn entry_sound(words: &[u32]) -> bool
-    requires { length words.now ≡ width }
+fn entry_sound(words: &[u32; WIDTH]) -> bool
     ensures { result ≡ entry_sound (entry_of words.now) }
 {
     if !is_number(words[TILL], words[SEQUENCE] as u64) {
         return false;
     }
-    let cards = super::words::cards_in(&words[ASKED..PARTS]);
-    if !asked_sound(&words[ASKED..PARTS], cards) {
+    let asked = super::words::block(words, ASKED);
+    let cards = super::words::cards_in(asked);
+    if !asked_sound(asked, cards) {
         return false;
     }
     if !super::words::all_bounded(&words[PARTS..STATUS], fares::limits::part_bound(cards)) {
@@ -87,18 +85,13 @@ fn entry_sound(words: &[u32]) -> bool
     super::words::all_zero(&words[SPARE..WIDTH])
 }
 
-fn entries_sound(book: &[u32], n: usize) -> bool
-    requires { (n ≤ capacity) × (start_of n ≤ length book.now) }
-    ensures { result ≡ every entry_sound (up_to (entry_at book.now) n) }
+fn entries_sound(entries: &[[u32; WIDTH]]) -> bool
+    ensures { result ≡ every entry_sound (map entry_of entries.now) }
 {
-    let mut i = 0;
-    while i < n {
-        let at = ENTRIES + i * WIDTH;
-        let end = at + WIDTH;
-        if !entry_sound(&book[at..end]) {
+    for words in entries {
+        if !entry_sound(words) {
             return false;
         }
-        i += 1;
     }
     true
 }
@@ -114,10 +107,11 @@ pub fn is_sound(book: &[u32]) -> bool
     if CAPACITY < count {
         return false;
     }
-    if !entries_sound(book, count) {
+    let entries = super::entries::first(book, count);
+    if !entries_sound(entries) {
         return false;
     }
-    if !super::numbers::numbers_differ(book, count) {
+    if !super::numbers::numbers_differ(entries) {
         return false;
     }
     let unused = ENTRIES + count * WIDTH;

@@ -5,7 +5,7 @@ ghost use Rattle.book.specs.Sound.{sound_words};
 ghost use Rattle.book.specs.Amounts.{live_amount, balance_of};
 ghost use Rattle.book.specs.Helpers.{counted};
 
-use super::words::{ENTRIES, ENTRY_COUNT, LEG_WIDTH, PARTS, RAILWAYS, STATUS, WIDTH};
+use super::words::{ENTRY_COUNT, LEG_WIDTH, PARTS, RAILWAYS, STATUS, WIDTH};
 
 // Stands for all railways.
 pub const ALL: u32 = 0;
@@ -21,20 +21,17 @@ fn counts(leg: u32, railway: u32) -> bool
 }
 
 // What an entry comes to for a railway, 0 if it is cancelled.
-fn entry_owed(words: &[u32], railway: u32) -> u64
-    requires { length words.now ≡ width }
+fn entry_owed(words: &[u32; WIDTH], railway: u32) -> u64
     ensures { result ≡ live_amount (counted railway) (entry_of words.now) }
 {
     if words[STATUS] != 0 {
         return 0;
     }
     let mut sum: u64 = 0;
-    let mut j = 0;
-    while j < 8 {
+    for j in 0..8 {
         if counts(words[RAILWAYS + LEG_WIDTH * j], railway) {
             sum += words[PARTS + j] as u64;
         }
-        j += 1;
     }
     sum
 }
@@ -46,12 +43,8 @@ pub fn owed(book: &[u32], railway: u32) -> u64
 {
     let count = book[ENTRY_COUNT] as usize;
     let mut sum: u64 = 0;
-    let mut i = 0;
-    while i < count {
-        let at = ENTRIES + i * WIDTH;
-        let end = at + WIDTH;
-        sum += entry_owed(&book[at..end], railway);
-        i += 1;
+    for words in super::entries::first(book, count) {
+        sum += entry_owed(words, railway);
     }
     sum
 }

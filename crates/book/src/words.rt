@@ -6,6 +6,7 @@ ghost use Rattle.book.specs.Sound.{is_zero, is_bounded};
 ghost use Rattle.book.specs.Helpers.{legs_clear, unused_zero};
 
 use fares::{Leg, Question};
+use std::array;
 
 // A question: offer, day, four cards, the leg count, six pairs of a category and its persons, and eight legs of four words.
 pub const OFFER: usize = 0;
@@ -90,20 +91,18 @@ pub fn question_words(q: Question) -> [u32; QUESTION_WIDTH]
     words[CARDS + 3] = cards[3];
     words[COUNT] = q.count;
     words[PERSONS] = q.persons;
-    let mut j = 0;
-    while j < 8 {
+    for j in 0..8 {
         let leg = leg_at(q, j);
         let at = LEGS + LEG_WIDTH * j;
         words[at] = leg.railway;
         words[at + 1] = leg.fare;
-        j += 1;
     }
     words
 }
 
 // Leg j that a question's words say.
-pub fn leg_in(words: &[u32], j: usize) -> Leg
-    requires { (length words.now ≡ question_width) × (j < 8) }
+pub fn leg_in(words: &[u32; QUESTION_WIDTH], j: usize) -> Leg
+    requires { j < 8 }
     ensures { result ≡ leg_of words.now j }
 {
     let at = LEGS + LEG_WIDTH * j;
@@ -114,8 +113,7 @@ pub fn leg_in(words: &[u32], j: usize) -> Leg
 }
 
 // The cards that a question's words say.
-pub fn cards_in(words: &[u32]) -> [u32; 4]
-    requires { length words.now ≡ question_width }
+pub fn cards_in(words: &[u32; QUESTION_WIDTH]) -> [u32; 4]
     ensures { result ≡ (question_of words.now).cards }
 {
     [
@@ -127,25 +125,14 @@ pub fn cards_in(words: &[u32]) -> [u32; 4]
 }
 
 // The legs that a question's words say.
-fn legs_in(words: &[u32]) -> [Leg; 8]
-    requires { length words.now ≡ question_width }
+fn legs_in(words: &[u32; QUESTION_WIDTH]) -> [Leg; 8]
     ensures { result ≡ up_to (leg_of words.now) 8 }
 {
-    let mut legs = [Leg {
-        railway: 0,
-        fare: 0,
-    }; 8];
-    let mut j = 0;
-    while j < 8 {
-        legs[j] = leg_in(words, j);
-        j += 1;
-    }
-    legs
+    array::from_fn(|j| leg_in(words, j))
 }
 
 // The question that words say.
-pub fn question_in(words: &[u32]) -> Question
-    requires { length words.now ≡ question_width }
+pub fn question_in(words: &[u32; QUESTION_WIDTH]) -> Question
     ensures { result ≡ question_of words.now }
 {
     Question {
@@ -159,18 +146,15 @@ pub fn question_in(words: &[u32]) -> Question
 }
 
 // Whether words are those of a question: as many are alike as there are, which a processor counts several at a time.
-pub fn says(words: &[u32], q: Question) -> bool
-    requires { length words.now ≡ question_width }
+pub fn says(words: &[u32; QUESTION_WIDTH], q: Question) -> bool
     ensures { result ≡ same words.now (question_words q) }
 {
     let own = question_words(q);
     let mut alike: u32 = 0;
-    let mut k = 0;
-    while k < QUESTION_WIDTH {
+    for k in 0..QUESTION_WIDTH {
         if words[k] == own[k] {
             alike += 1;
         }
-        k += 1;
     }
     alike as usize == QUESTION_WIDTH
 }
@@ -180,10 +164,8 @@ pub fn all_bounded(words: &[u32], bound: u32) -> bool
     ensures { result ≡ is_bounded bound words.now }
 {
     let mut good = true;
-    let mut k = 0;
-    while k < words.len() {
-        good = common::both(good, words[k] <= bound);
-        k += 1;
+    for word in words {
+        good = common::both(good, *word <= bound);
     }
     good
 }
@@ -195,12 +177,11 @@ pub fn all_zero(words: &[u32]) -> bool
 }
 
 // Whether two words of each of the first legs, which are kept zero, are.
-fn legs_clear(words: &[u32], count: usize) -> bool
-    requires { (length words.now ≡ question_width) × (count ≤ 8) }
+fn legs_clear(words: &[u32; QUESTION_WIDTH], count: usize) -> bool
+    requires { count ≤ 8 }
     ensures { result ≡ legs_clear words.now count }
 {
-    let mut j = 0;
-    while j < count {
+    for j in 0..count {
         let at = LEGS + LEG_WIDTH * j;
         if words[at + 2] != 0 {
             return false;
@@ -208,7 +189,6 @@ fn legs_clear(words: &[u32], count: usize) -> bool
         if words[at + 3] != 0 {
             return false;
         }
-        j += 1;
     }
     true
 }
@@ -220,23 +200,21 @@ fn sum_of_four(first: u32, second: u32, third: u32, fourth: u32) -> u64
 }
 
 // Whether all words of the legs from one on are zero: a leg's four are added up at once.
-fn legs_zero(words: &[u32], first: usize) -> bool
-    requires { (length words.now ≡ question_width) × (first ≤ 8) }
+fn legs_zero(words: &[u32; QUESTION_WIDTH], first: usize) -> bool
+    requires { first ≤ 8 }
     ensures { result ≡ every is_zero (drop (railway_at first) words.now) }
 {
     let mut sum: u64 = 0;
-    let mut j = first;
-    while j < 8 {
+    for j in first..8 {
         let at = LEGS + LEG_WIDTH * j;
         sum += sum_of_four(words[at], words[at + 1], words[at + 2], words[at + 3]);
-        j += 1;
     }
     sum == 0
 }
 
 // Whether what a question of so many legs does not use is zero.
-pub fn unused_zero(words: &[u32], count: usize) -> bool
-    requires { (length words.now ≡ question_width) × (count ≤ 8) }
+pub fn unused_zero(words: &[u32; QUESTION_WIDTH], count: usize) -> bool
+    requires { count ≤ 8 }
     ensures { result ≡ unused_zero words.now count }
 {
     if words[PAIRS] != 0 {
@@ -251,16 +229,10 @@ pub fn unused_zero(words: &[u32], count: usize) -> bool
     legs_clear(words, count)
 }
 
-// The eight words from a place on.
-pub fn parts_in(book: &[u32], at: usize) -> [u32; 8]
-    requires { at + 8 ≤ length book.now }
-    ensures { result ≡ take 8 (drop at book.now) }
+// The N words from a place on, where they stand.
+pub fn block<const N: usize>(words: &[u32], at: usize) -> &[u32; N]
+    requires { at + N ≤ length words.now }
+    ensures { result.now ≡ take N (drop at words.now) }
 {
-    let mut parts = [0u32; 8];
-    let mut j = 0;
-    while j < 8 {
-        parts[j] = book[at + j];
-        j += 1;
-    }
-    parts
+    words[at..].first_chunk::<N>().unwrap()
 }

@@ -1,11 +1,14 @@
 -- `book::entries::find` meets its contract.
 -- Assumes nothing.
-use mathlib.Core.Path.{sym, ◌∙◌, ap}
-use Rattle.book.specs.Helpers.{held_before}
-use Rattle.book.proofs.NumbersDiffer.{held_is}
+use Rattle.std.proofs.Common.{◌∙◌, map, ap}
+use Rattle.book.specs.Words.{entry_of, entries, count_of}
+use Rattle.book.specs.Sound.{held}
+use Rattle.book.proofs.EntryWords.{first_entries}
 use Rattle.book.proofs.entries.find.Goals as goal
 
 pub returns : goal.returns
+unfolding entries
 returns c =
     let a = c.args in
-    c.find_before.ensures ∙ (ap (λ n. held_before a.book.now n a.till a.sequence) c.count.ensures ∙ sym (held_is a.book.now a.till a.sequence))
+    c.find_in.ensures
+    ∙ ap (held a.till a.sequence) (ap (map entry_of) c.first.ensures ∙ rw c.count.ensures (first_entries a.book.now (count_of a.book.now)))

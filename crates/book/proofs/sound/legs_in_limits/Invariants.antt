@@ -1,15 +1,9 @@
--- `book::sound::legs_in_limits` meets its contract. The loop's invariant: the legs that are left decide.
+-- `book::sound::legs_in_limits` meets its contract. The loop's invariant: the legs passed are within their limits.
 -- Assumes nothing.
-use Prim.Native.Nat.{◌≤◌, ◌-◌}
-use mathlib.Core.Path.{◌≡◌}
-use lib.ListN.{drop}
-use Rattle.common.specs.Lists.{every, up_to}
+use Rattle.std.proofs.Common.{◌≡◌, ℕ, ◌<◌, true}
 use Rattle.fares.specs.Question.{leg_in_limits}
 use Rattle.book.specs.Words.{leg_of}
 use Rattle.book.proofs.sound.legs_in_limits.Given as goal
 
 abbrev pub invariant-loop-j : goal.invariant-loop-j
-invariant-loop-j l = (l.j ≤ l.count) × (every leg_in_limits (up_to (leg_of l.words) l.count) ≡ every leg_in_limits (drop l.j (up_to (leg_of l.words) l.count)))
-
-abbrev pub decreases-loop-j : goal.decreases-loop-j
-decreases-loop-j l = l.count - l.j
+invariant-loop-j l = (k : ℕ) → k < l.j → leg_in_limits (leg_of l.words k) ≡ true

@@ -16,24 +16,24 @@ returns-then-words-ne0 c = sym (rw (ne_eqb _ _ c.if-words-ne0.true))
 
 pub loop-j-init : goal.loop-j-init
 unfolding sum up_to
-loop-j-init c = (omega arith, omega arith, refl)
+loop-j-init c = (omega arith, refl)
 
 pub overflow_cast-sum : goal.overflow_cast-sum
-overflow_cast-sum c = omega (arith, c.shared_slice_known-then-counts-1.given (parts_at + c.loop-j.j))
+overflow_cast-sum c = omega (arith, c.fits-words (parts_at + c.loop-j.j))
 
 pub overflow_add-sum-then-counts : goal.overflow_add-sum-then-counts
-overflow_add-sum-then-counts c = omega (arith, c.shared_slice_known-then-counts-1.given (parts_at + c.loop-j.j))
+overflow_add-sum-then-counts c = omega (arith, c.fits-words (parts_at + c.loop-j.j))
 
 pub loop-j-preserved : goal.loop-j-preserved
 loop-j-preserved c =
     let a = c.args in
     let s = sum_up (counted_part a.railway (entry_of a.words.now).asked (entry_of a.words.now).parts) c.loop-j.j in
-    let n = c.shared_slice_known-in-loop-j-1.given (parts_at + c.loop-j.j) in
+    let n = c.fits-words (parts_at + c.loop-j.j) in
     let t = c.loop-j-test.true in
     let e = c.counts.ensures in
     elim c.if-counts.branch [
-      | then-counts w ↦ (omega arith, omega (arith, n), omega (arith, s, leg_counts a.words.now a.railway c.loop-j.j t e w.if-counts.true))
-      | else-counts w ↦ (omega arith, omega arith, omega (arith, s, leg_counts_not a.words.now a.railway c.loop-j.j t e w.if-counts.false))
+      | then-counts w ↦ (omega (arith, n), omega (arith, s, leg_counts a.words.now a.railway c.loop-j.j t e w.if-counts.true))
+      | else-counts w ↦ (omega arith, omega (arith, s, leg_counts_not a.words.now a.railway c.loop-j.j t e w.if-counts.false))
     ]
 
 pub returns : goal.returns
@@ -41,6 +41,6 @@ returns c =
     let a = c.args in
     let w = a.words.now in
     let e : c.loop-j.j ≡ 8 = omega arith in
-    c.loop-j.invariant.2
+    c.loop-j.invariant.1
     ∙ (ap (λ n. sum (up_to (counted_part a.railway (entry_of w).asked (entry_of w).parts) n)) e
     ∙ (counted_is a.railway (entry_of w).asked (entry_of w).parts ∙ sym (rw (eq-eqb _ _ c.if-words-ne0.false))))

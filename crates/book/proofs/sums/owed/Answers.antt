@@ -1,89 +1,52 @@
--- `book::sums::owed` meets its contract. The loop's invariant: the sum is the balance of the entries before i, each of them small.
+-- `book::sums::owed` meets its contract. The loop's invariant: the sum is the balance of the entries passed, each of them small.
 -- Assumes nothing.
-use Prim.Native.Nat.{ℕ, ◌+◌, ◌≤◌}
-use native.Mathlib.Omega.{arith}
-use lib.ListN.{get_or}
-use borrow.Author.Rules.{rules}
-use Rattle.book.specs.Words.{capacity, count_of}
+use Rattle.std.proofs.Common.{◌≡◌, ◌∙◌, ◌≤◌, ◌<◌, ◌+◌, ℕ, [], get_or, ap, arith, length}
+use Rattle.common.proofs.Lists.{upto_length, upto_at}
+use Rattle.book.specs.Words.{count_of, entry_of, entry_words, entry_at}
+use Rattle.book.specs.Amounts.{live_amount}
 use Rattle.book.specs.Helpers.{counted}
-use Rattle.book.proofs.SoundBook.{most, IsSound, is_sound}
+use Rattle.book.proofs.SoundBook.{most, is_sound}
 use Rattle.book.proofs.BalanceSums.{counted_small, Summed, sum_start, sum_turn, sum_end}
 use Rattle.book.proofs.sums.owed.Goals as goal
 
 pub bounds-book-0 : goal.bounds-book-0
-bounds-book-0 c =
-    let sound : IsSound c.args.book.now = is_sound c.args.book.now c.requires in
-    omega (arith, sound.long)
+bounds-book-0 c = omega (arith, (is_sound c.args.book.now c.requires).long)
 
-pub overflow_cast-count : goal.overflow_cast-count
-overflow_cast-count c = omega (arith, c.shared_slice_known-1.given 0)
+pub first-words-items-requires : goal.first-words-items-requires
+first-words-items-requires c = let s = is_sound c.args.book.now c.requires in omega (arith, s.long, s.few)
 
-pub loop-i-init : goal.loop-i-init
-loop-i-init c = (omega arith, sum_start (counted c.args.railway) c.args.book.now)
-
-pub overflow_mul-at : goal.overflow_mul-at
-overflow_mul-at c =
-    let sound : IsSound c.args.book.now = is_sound c.args.book.now c.requires in
-    let few : count_of c.args.book.now ≤ capacity = sound.few in
-    omega (arith, few)
-
-pub overflow_add-at : goal.overflow_add-at
-overflow_add-at c =
-    let sound : IsSound c.args.book.now = is_sound c.args.book.now c.requires in
-    let few : count_of c.args.book.now ≤ capacity = sound.few in
-    omega (arith, few)
-
-pub overflow_add-end : goal.overflow_add-end
-overflow_add-end c =
-    let sound : IsSound c.args.book.now = is_sound c.args.book.now c.requires in
-    let few : count_of c.args.book.now ≤ capacity = sound.few in
-    omega (arith, few)
-
-pub offset_bounds-book-at : goal.offset_bounds-book-at
-offset_bounds-book-at c =
-    let sound : IsSound c.args.book.now = is_sound c.args.book.now c.requires in
-    let few : count_of c.args.book.now ≤ capacity = sound.few in
-    omega (arith, few)
-
-pub slice_bounds-entry_owed-end : goal.slice_bounds-entry_owed-end
-slice_bounds-entry_owed-end c =
-    let sound : IsSound c.args.book.now = is_sound c.args.book.now c.requires in
-    let few : count_of c.args.book.now ≤ capacity = sound.few in
-    let n = few in
-    let m = sound.long in
-    search rules
-
-pub entry_owed-sum-requires : goal.entry_owed-sum-requires
-entry_owed-sum-requires c =
-    let sound : IsSound c.args.book.now = is_sound c.args.book.now c.requires in
-    let few : count_of c.args.book.now ≤ capacity = sound.few in
-    omega (arith, few, sound.long)
+pub loop-words-init : goal.loop-words-init
+loop-words-init c = sum_start (counted c.args.railway) c.args.book.now
 
 pub overflow_add-sum : goal.overflow_add-sum
 overflow_add-sum c =
-    let sound : IsSound c.args.book.now = is_sound c.args.book.now c.requires in
-    let few : count_of c.args.book.now ≤ capacity = sound.few in
-    let small : (k : ℕ) → get_or c.args.book.now k 0 ≤ most = λ k. omega (arith, c.shared_slice_known-1.given k) in
-    let turned : Summed (counted c.args.railway) c.args.book.now (c.loop-i.i + 1) (c.loop-i.sum + c.entry_owed-sum.result) = let a = c.args in
+    let a = c.args in
     let w = a.book.now in
-    sum_turn (counted a.railway) w (counted_small w (small) a.railway) c.loop-i.i c.loop-i.sum c.entry_owed-sum.result c.loop-i.invariant.1 c.entry_owed-sum.ensures in
-    omega (arith, few, turned.0)
+    let i = c.loop-words.words-index in
+    let l : i < count_of w = omega (arith, ap length c.first-words-items.ensures ∙ upto_length (entry_words w) (count_of w)) in
+    let e : entry_of (get_or c.first-words-items.result.now i []) ≡ entry_at w i = ap (λ bs. entry_of (get_or bs i [])) c.first-words-items.ensures ∙ ap entry_of (upto_at (entry_words w) (count_of w) i [] l) in
+    let small : (k : ℕ) → get_or w k 0 ≤ most = λ k. omega (arith, c.type_inv.book k) in
+    let turned : Summed (counted a.railway) w (i + 1) (c.loop-words.sum + c.entry_owed-sum.result) =
+    sum_turn (counted a.railway) w (counted_small w small a.railway) i c.loop-words.sum c.entry_owed-sum.result c.loop-words.invariant
+    (c.entry_owed-sum.ensures ∙ ap (live_amount (counted a.railway)) e) in
+    omega (arith, (is_sound w c.requires).few, turned.0)
 
-pub overflow_add-i : goal.overflow_add-i
-overflow_add-i c =
-    let sound : IsSound c.args.book.now = is_sound c.args.book.now c.requires in
-    let few : count_of c.args.book.now ≤ capacity = sound.few in
-    omega (arith, few)
-
-pub loop-i-preserved : goal.loop-i-preserved
-loop-i-preserved c =
-    let small : (k : ℕ) → get_or c.args.book.now k 0 ≤ most = λ k. omega (arith, c.shared_slice_known-1.given k) in
-    let turned : Summed (counted c.args.railway) c.args.book.now (c.loop-i.i + 1) (c.loop-i.sum + c.entry_owed-sum.result) = let a = c.args in
+pub loop-words-preserved : goal.loop-words-preserved
+loop-words-preserved c =
+    let a = c.args in
     let w = a.book.now in
-    sum_turn (counted a.railway) w (counted_small w (small) a.railway) c.loop-i.i c.loop-i.sum c.entry_owed-sum.result c.loop-i.invariant.1 c.entry_owed-sum.ensures in
-    (omega arith, turned)
+    let i = c.loop-words.words-index in
+    let l : i < count_of w = omega (arith, ap length c.first-words-items.ensures ∙ upto_length (entry_words w) (count_of w)) in
+    let e : entry_of (get_or c.first-words-items.result.now i []) ≡ entry_at w i = ap (λ bs. entry_of (get_or bs i [])) c.first-words-items.ensures ∙ ap entry_of (upto_at (entry_words w) (count_of w) i [] l) in
+    let small : (k : ℕ) → get_or w k 0 ≤ most = λ k. omega (arith, c.type_inv.book k) in
+    let turned : Summed (counted a.railway) w (i + 1) (c.loop-words.sum + c.entry_owed-sum.result) =
+    sum_turn (counted a.railway) w (counted_small w small a.railway) i c.loop-words.sum c.entry_owed-sum.result c.loop-words.invariant
+    (c.entry_owed-sum.ensures ∙ ap (live_amount (counted a.railway)) e) in
+    turned
 
 pub returns : goal.returns
 returns c =
     let a = c.args in
-    sum_end (counted a.railway) a.book.now c.loop-i.i c.loop-i.sum (omega arith) c.loop-i.invariant.1
+    let w = a.book.now in
+    let n = ap length c.first-words-items.ensures ∙ upto_length (entry_words w) (count_of w) in
+    sum_end (counted a.railway) w c.loop-words.words-index c.loop-words.sum (omega (arith, n)) c.loop-words.invariant

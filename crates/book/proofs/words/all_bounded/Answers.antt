@@ -1,22 +1,20 @@
 -- `book::words::all_bounded` meets its contract. The loop's invariant: whether the words passed are within the bound, and what is left, decide.
 -- Assumes nothing.
-use mathlib.Core.Path.{refl, sym, ◌∙◌}
+use Rattle.std.proofs.Common.{◌∙◌, refl, sym, leb}
 use mathlib.Core.Bool.{and_assoc, and-true}
-use native.Mathlib.Omega.{arith}
-use lib.Dec.{leb}
 use Rattle.common.proofs.Lists.{every_step, every_end}
 use Rattle.book.proofs.words.all_bounded.Goals as goal
 
-pub loop-k-init : goal.loop-k-init
-loop-k-init c = (omega arith, refl)
+pub loop-word-init : goal.loop-word-init
+loop-word-init c = refl
 
-pub loop-k-preserved : goal.loop-k-preserved
-loop-k-preserved c =
+pub loop-word-preserved : goal.loop-word-preserved
+loop-word-preserved c =
     let a = c.args in
-    let e = every_step (λ p. leb p a.bound) a.words.now c.loop-k.k 0 c.loop-k-test.true in
-    (omega arith, c.loop-k.invariant.1 ∙ rw (e, c.both-good.ensures, and_assoc) refl)
+    let e = every_step (λ p. leb p a.bound) a.words.now c.loop-word.word-index 0 c.loop-word-test.true in
+    c.loop-word.invariant ∙ rw (e, c.both-good.ensures, and_assoc) refl
 
 pub returns : goal.returns
 returns c =
     let a = c.args in
-    sym (c.loop-k.invariant.1 ∙ rw (every_end (λ p. leb p a.bound) a.words.now c.loop-k.k c.loop-k-test.false, and-true))
+    sym (c.loop-word.invariant ∙ rw (every_end (λ p. leb p a.bound) a.words.now c.loop-word.word-index c.loop-word-test.false, and-true))

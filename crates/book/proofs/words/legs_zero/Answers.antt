@@ -32,27 +32,27 @@ leg-behind ws j long l =
     )
 
 pub loop-j-init : goal.loop-j-init
-loop-j-init c = (omega arith, omega arith, omega arith)
+loop-j-init c = (omega arith, omega arith)
 
 pub overflow_add-sum : goal.overflow_add-sum
 overflow_add-sum c =
-    let small : c.sum_of_four-sum.result ≤ 4 * most = let k = c.shared_slice_known-in-loop-j-4-1 in
+    let small : c.sum_of_four-sum.result ≤ 4 * most = let k = c.fits-words in
     let j = c.loop-j.j in
-    omega (arith, c.sum_of_four-sum.ensures, k.given (railway_at j), k.given (fare_at j), k.given (third_at j), k.given (fourth_at j)) in
+    omega (arith, c.sum_of_four-sum.ensures, k (railway_at j), k (fare_at j), k (third_at j), k (fourth_at j)) in
     omega (arith, small)
 
 pub loop-j-preserved : goal.loop-j-preserved
 loop-j-preserved c =
-    let small : c.sum_of_four-sum.result ≤ 4 * most = let k = c.shared_slice_known-in-loop-j-4-1 in
+    let small : c.sum_of_four-sum.result ≤ 4 * most = let k = c.fits-words in
     let j = c.loop-j.j in
-    omega (arith, c.sum_of_four-sum.ensures, k.given (railway_at j), k.given (fare_at j), k.given (third_at j), k.given (fourth_at j)) in
-    let e = leg-behind c.args.words.now c.loop-j.j c.requires.0 c.loop-j-test.true in
-    (omega arith, omega (arith, small), omega (arith, e, c.sum_of_four-sum.ensures, c.loop-j.invariant.2))
+    omega (arith, c.sum_of_four-sum.ensures, k (railway_at j), k (fare_at j), k (third_at j), k (fourth_at j)) in
+    let e = leg-behind c.args.words.now c.loop-j.j c.told-words c.loop-j-test.true in
+    (omega (arith, small), omega (arith, e, c.sum_of_four-sum.ensures, c.loop-j.invariant.1))
 
 pub returns : goal.returns
 unfolding sum
 returns c =
     let w = c.args.words.now in
-    let z : sum (drop (railway_at c.loop-j.j) w) ≡ 0 = rw (drop_of_length-le w {i = railway_at c.loop-j.j} (omega (arith, c.requires.0))) in
-    let e : c.loop-j.sum ≡ sum (drop (railway_at c.args.first) w) = omega (arith, z, c.loop-j.invariant.2) in
+    let z : sum (drop (railway_at c.loop-j.j) w) ≡ 0 = rw (drop_of_length-le w {i = railway_at c.loop-j.j} (omega arith)) in
+    let e : c.loop-j.sum ≡ sum (drop (railway_at c.args.first) w) = omega (arith, z, c.loop-j.invariant.1) in
     ap (λ n. eqb n 0) e ∙ zero_sum (drop (railway_at c.args.first) w)

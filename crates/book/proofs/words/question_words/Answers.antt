@@ -8,13 +8,13 @@ use Rattle.book.proofs.words.question_words.Goals as goal
 
 pub loop-j-init : goal.loop-j-init
 unfolding up_to
-loop-j-init c = (omega arith, none_written c.args.q)
+loop-j-init c = none_written c.args.q
 
 pub loop-j-preserved : goal.loop-j-preserved
-loop-j-preserved c = (omega arith, leg_written c.args.q c.loop-j.j c.loop-j-test.true c.leg_at-leg.ensures c.loop-j.invariant.1)
+loop-j-preserved c = leg_written c.args.q c.loop-j.j c.loop-j-test.true c.leg_at-leg.ensures c.loop-j.invariant
 
 pub returns : goal.returns
 returns c =
     let e : c.loop-j.j ≡ 8 = omega arith in
     let q = c.args.q in
-    c.loop-j.invariant.1 ∙ (ap (written q) e ∙ all_written q)
+    c.loop-j.invariant ∙ (ap (written q) e ∙ all_written q)

@@ -36,20 +36,18 @@ all_alike {words} {own} {k} {alike} n m a = go (same words own) refl
     go false e = ne_eqb alike k (λ i. never (is_same words own (ext_get_or 0 words own (n ∙ sym m) (λ j l. a.to i j (omega (arith, n))))) e)
 
 pub loop-k-init : goal.loop-k-init
-loop-k-init c = (omega arith, record { most = omega arith; to = λ i. below_none _; from = λ f. refl })
+loop-k-init c = record { most = omega arith; to = λ i. below_none _; from = λ f. refl }
 
 pub loop-k-preserved : goal.loop-k-preserved
 loop-k-preserved c =
-    let a = c.loop-k.invariant.1 in (
-      omega arith,
-      elim c.if-words-k.branch [
-        | then-words-k w ↦ one_more w.if-words-k.true (omega arith) a
-        | else-words-k w ↦ no_more w.if-words-k.false (omega arith) a
-      ],
-    )
+    let a = c.loop-k.invariant in
+    elim c.if-words-k.branch [
+      | then-words-k w ↦ one_more w.if-words-k.true (omega arith) a
+      | else-words-k w ↦ no_more w.if-words-k.false (omega arith) a
+    ]
 
 pub returns : goal.returns
 returns c =
     let e : c.loop-k.k ≡ question_width = omega arith in
     let n = words_length c.args.q in
-    all_alike c.requires n (rw (e, c.question_words-own.ensures) at c.loop-k.invariant.1)
+    all_alike c.told-words n (rw (e, c.question_words-own.ensures) at c.loop-k.invariant)

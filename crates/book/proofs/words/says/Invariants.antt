@@ -1,10 +1,9 @@
 -- `book::words::says` meets its contract. The loop's invariant: as many words are alike as were passed exactly if all of them are.
 -- Assumes nothing.
-use Prim.Native.Nat.{ℕ, ◌-◌, ◌≤◌, ◌<◌}
+use Prim.Native.Nat.{ℕ, ◌≤◌, ◌<◌}
 use mathlib.Core.Path.{◌≡◌}
 use mathlib.Core.List.{List}
 use lib.ListN.{get_or}
-use Rattle.book.specs.Words.{question_width}
 use Rattle.book.proofs.words.says.Given as goal
 
 abbrev pub AllAlike : List ℕ → List ℕ → ℕ → Type 0
@@ -16,7 +15,4 @@ pub record Alike (words own : List ℕ) (k alike : ℕ) : Type 0 where
   pub from : AllAlike words own k → alike ≡ k
 
 abbrev pub invariant-loop-k : goal.invariant-loop-k
-invariant-loop-k l = (l.k ≤ question_width) × Alike l.words l.own l.k l.alike
-
-abbrev pub decreases-loop-k : goal.decreases-loop-k
-decreases-loop-k l = question_width - l.k
+invariant-loop-k l = Alike l.words l.own l.k l.alike

@@ -1,11 +1,10 @@
 -- `book::words::unused_zero` meets its contract.
 -- Assumes nothing.
-use mathlib.Core.Path.{◌≡◌}
+use mathlib.Core.Path.{◌≡◌, sym, ◌∙◌}
 use mathlib.Core.Bool.{true, and-true}
 use lib.ListN.{take, drop}
 use borrow.Author.Tests.{eq-eqb, ne_eqb}
 use Rattle.common.specs.Lists.{every}
-use Rattle.common.proofs.Tests.{fails, holds}
 use Rattle.book.specs.Words.{more_pairs_at, more_pairs_width}
 use Rattle.book.specs.Sound.{is_zero}
 use Rattle.book.specs.Helpers.{unused_zero}
@@ -17,17 +16,17 @@ returns-then-words-ne0 c = rw (ne_eqb _ 0 c.if-words-ne0.true)
 
 pub returns-then-not-all_zero : goal.returns-then-not-all_zero
 unfolding unused_zero every
-returns-then-not-all_zero c = rw (eq-eqb _ 0 c.if-words-ne0.false, fails c.all_zero.result c.if-not-all_zero.true-raw c.all_zero.ensures)
+returns-then-not-all_zero c = rw (eq-eqb _ 0 c.if-words-ne0.false, sym c.all_zero.ensures ∙ c.if-not-all_zero.true)
 
 pub returns-then-not-legs_zero : goal.returns-then-not-legs_zero
 unfolding unused_zero every
 returns-then-not-legs_zero c =
-    let pairs-in : every is_zero (take more_pairs_width (drop more_pairs_at c.args.words.now)) ≡ true = holds c.all_zero.result c.if-not-all_zero.false-raw c.all_zero.ensures in
-    rw (eq-eqb _ 0 c.if-words-ne0.false, pairs-in, fails c.legs_zero.result c.if-not-legs_zero.true-raw c.legs_zero.ensures)
+    let pairs-in : every is_zero (take more_pairs_width (drop more_pairs_at c.args.words.now)) ≡ true = sym c.all_zero.ensures ∙ c.if-not-all_zero.false in
+    rw (eq-eqb _ 0 c.if-words-ne0.false, pairs-in, sym c.legs_zero.ensures ∙ c.if-not-legs_zero.true)
 
 pub returns : goal.returns
 unfolding unused_zero every
 returns c =
-    let pairs-in : every is_zero (take more_pairs_width (drop more_pairs_at c.args.words.now)) ≡ true = holds c.all_zero.result c.if-not-all_zero.false-raw c.all_zero.ensures in
-    let e = holds c.legs_zero.result c.if-not-legs_zero.false-raw c.legs_zero.ensures in
+    let pairs-in : every is_zero (take more_pairs_width (drop more_pairs_at c.args.words.now)) ≡ true = sym c.all_zero.ensures ∙ c.if-not-all_zero.false in
+    let e = sym c.legs_zero.ensures ∙ c.if-not-legs_zero.false in
     rw (eq-eqb _ 0 c.if-words-ne0.false, pairs-in, e, and-true) c.legs_clear.ensures
