@@ -11,7 +11,7 @@ use lib.Dec.{eqb, ltb}
 use lib.ListN.{length, get_or, take, length-append, get_or-append}
 use lib.Seq.{get_or_at, get_or-take, length-take-le}
 use Rattle.std.proofs.Common.{Some, None, is_some}
-use borrow.Author.Tests.{eqb-true, eq-eqb, ne_eqb, lt-ltb, le-ltb}
+use borrow.Author.Tests.{eqb-true, eq-eqb, ne_eqb, ltb-true, ltb-false, lt-ltb, le-ltb}
 use Rattle.common.specs.Least.{least}
 use Rattle.common.proofs.Least.{hit, none, before, passes, finds_none, none_finds, alike}
 use Rattle.common.proofs.Tests.{order, side, never, both_true, refuted}
@@ -83,6 +83,22 @@ module _ (t s : ℕ) (es : List Entry) where
       told : (k : ℕ) (b : Bool) → is_some (cond b (Some k) None) ≡ b
       told k true = refl
       told k false = refl
+
+-- WHERE IT IS FOUND, and that it is not
+module _ (t s : ℕ) (es : List Entry) where
+  pub held_some : (i : ℕ) → held t s es ≡ Some i → (held_at t s es ≡ i) × (i < length es)
+  held_some i = go (ltb (held_at t s es) (length es)) refl
+    where
+      go : (b : Bool) → ltb (held_at t s es) (length es) ≡ b → cond b (Some (held_at t s es)) None ≡ Some i → (held_at t s es ≡ i) × (i < length es)
+      go true h e = let k : held_at t s es ≡ i = cc in (k, omega (arith, k, ltb-true (held_at t s es) (length es) h))
+      go false h e = cc
+
+  pub held_none : held t s es ≡ None → length es ≤ held_at t s es
+  held_none = go (ltb (held_at t s es) (length es)) refl
+    where
+      go : (b : Bool) → ltb (held_at t s es) (length es) ≡ b → cond b (Some (held_at t s es)) None ≡ None → length es ≤ held_at t s es
+      go true h e = cc
+      go false h e = ltb-false (held_at t s es) (length es) h
 
 -- AN ENTRY ADDED, with a number that no entry has
 module _ (es : List Entry) (e : Entry) where

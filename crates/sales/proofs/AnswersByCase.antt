@@ -9,8 +9,9 @@ use mathlib.Core.Logic.{⊎_elim}
 use lib.Dec.{eqb, leb}
 use lib.ListN.{length}
 use borrow.Author.Tests.{lt-ltb, le-ltb, le-leb, lt-leb, leb-false, ltb-true, not-false}
-use Rattle.std.specs.Prelude.{Ok, Err}
 use Rattle.common.specs.declared.reasons.Reason.TheVariants.{BookUnsound, NumberOutside, NumberTaken, BookFull, SaleUnknown}
+use Rattle.std.specs.Prelude.{Ok, Err, Some, None, is_some}
+use Rattle.std.specs.Option.{ok_or}
 use Rattle.common.specs.Lists.{same}
 use Rattle.common.specs.Checks.{refuse, Finding, clean, fault, check, unless, first_fault}
 use Rattle.common.specs.declared.Refusal.{Refusal}
@@ -20,12 +21,13 @@ use Rattle.fares.specs.Fare.{parts_of, fare_checks, priced, quoted, fare_of}
 use Rattle.fares.specs.declared.Question.{Question}
 use Rattle.fares.specs.declared.Quote.{Quote}
 use Rattle.book.specs.Words.{Entry, width, start_of, entry_at, capacity, count_of, entries, question_words, booking}
-use Rattle.book.specs.Sound.{number_in_limits, sound_words}
+use Rattle.book.specs.Sound.{number_in_limits, held, sound_words}
 use Rattle.sales.specs.Sales.{receipt, cancel_receipt, is_clean, place, is_present, present, sale_checks, sale_answer, is_booked, sale_words, cancel_checks, cancel_answer, is_cancelled, cancel_words}
 use Rattle.sales.specs.declared.Outcome.TheVariants.{Booked, AlreadyBooked, Cancelled, AlreadyCancelled}
 use Rattle.sales.specs.declared.Receipt.{Receipt}
 use Rattle.sales.specs.Helpers.{looked_up, again_answer, first_answer}
 use Rattle.sales.specs.Reading.{booking_at, find_answer}
+use Rattle.book.proofs.NumbersDiffer.{held_some, held_none}
 use Rattle.book.proofs.SoundBook.{is_sound, entry_is, entries_length}
 use Rattle.book.specs.Changes.{added, cancelled_at}
 
@@ -41,6 +43,19 @@ module _ (w : List ℕ) (t s : ℕ) where
 
   the_present : at < count_of w → present w t s ≡ entry_at w at
   the_present l = entry_is w at l
+
+  -- where the book's own search finds it, and that it does not
+  pub found_at : {i : ℕ} → held t s (entries w) ≡ Some i → (at ≡ i) × (i < count_of w)
+  found_at {i} e = let h = held_some t s (entries w) i e in (h.0, omega (arith, h.1, entries_length w))
+
+  pub found_nowhere : held t s (entries w) ≡ None → count_of w ≤ at
+  found_nowhere e = omega (arith, held_none t s (entries w) e, entries_length w)
+
+  pub found_somewhere : at < count_of w → is_some (held t s (entries w)) ≡ true
+  found_somewhere l = rw (is_present_lem l)
+
+  pub found_inside : {i : ℕ} → sound_words w ≡ true → held t s (entries w) ≡ Some i → start_of i + width ≤ length w
+  found_inside ok e = let k = is_sound w ok in omega (arith, (found_at e).1, k.long, k.few)
 
   module _ (b : List ℕ) (q : Question) where
     pub sale_unsound : sound_words w ≡ false → sale_answer w t s b q ≡ Err (refuse BookUnsound 0 0)
@@ -64,8 +79,11 @@ module _ (w : List ℕ) (t s : ℕ) where
             rw (ok, n, l)
             (by_question (same (present w t s).asked (question_words q)) (place w t s) (receipt (AlreadyBooked (present w t s).status) (present w t s).parts))
 
-        pub sale_again : at < count_of w → sale_answer w t s b q ≡ again_answer (entry_at w at) at q
-        sale_again l = present_again (is_present_lem l) ∙ ap (λ e. again_answer e at q) (the_present l)
+        pub sale_again : {i : ℕ} → held t s (entries w) ≡ Some i → sale_answer w t s b q ≡ again_answer (entry_at w i) i q
+        sale_again h =
+            let f = found_at h in
+            let l : at < count_of w = omega (arith, f.0, f.1) in
+            present_again (is_present_lem l) ∙ (ap (λ e. again_answer e at q) (the_present l) ∙ ap (λ k. again_answer (entry_at w k) k q) f.0)
 
         module _ (l : count_of w ≤ at) where
           pub sale_full : capacity ≤ count_of w → sale_answer w t s b q ≡ Err (refuse BookFull 0 0)
@@ -98,8 +116,13 @@ module _ (w : List ℕ) (t s : ℕ) where
       unfolding cancel_checks first_fault
       looked_present p = rw (ok, n, p)
 
-      pub looked_known : at < count_of w → looked ≡ clean
-      looked_known l = looked_present (is_present_lem l)
+      pub looked_for : looked_up w t s ≡ ok_or (held t s (entries w)) (refuse SaleUnknown 0 0)
+      unfolding looked_up cancel_checks first_fault
+      looked_for = rw (ok, n) (go (is_present w t s))
+        where
+          go : (b : Bool) → unless (cond (not b) (fault (refuse SaleUnknown 0 0)) clean) at ≡ ok_or (cond b (Some at) None) (refuse SaleUnknown 0 0)
+          go true = refl
+          go false = refl
 
   pub found_there : looked ≡ clean → (sound_words w ≡ true) × (number_in_limits t s ≡ true) × (at < count_of w)
   unfolding cancel_checks

@@ -1,11 +1,11 @@
 // What a sale and a cancellation come to, before anything is written.
-ghost use Rattle.std.specs.Prelude.{◌≡◌, ◌+◌, ◌≤◌, length};
-ghost use Rattle.book.specs.Words.{width, start_of, entry_at};
+ghost use Rattle.std.specs.Prelude.{◌≡◌};
 ghost use Rattle.sales.specs.Sales.{cancel_receipt, sale_answer, cancel_answer};
 ghost use Rattle.sales.specs.Helpers.{again_answer, first_answer};
 
 use super::reading::look_up;
 use super::{Outcome, Receipt};
+use book::entries::Entry;
 use common::{Reason, Refusal};
 use fares::Question;
 
@@ -24,11 +24,11 @@ pub fn judge_sale(
     if !book::sound::is_number(till, sequence) {
         return Err(common::refuse(Reason::NumberOutside, 0, 0));
     }
-    let count = book::entries::count(book);
-    let place = book::entries::find(book, till, sequence as u32);
-    if place < count {
-        return sold_again(book, place, q);
+    if let Some(place) = book::entries::find(book, till, sequence as u32) {
+        let entry = book::entries::entry_at(book, place);
+        return sold_again(&entry, place, q);
     }
+    let count = book::entries::count(book);
     if book::CAPACITY <= count {
         return Err(common::refuse(Reason::BookFull, 0, 0));
     }
@@ -36,16 +36,15 @@ pub fn judge_sale(
 }
 
 // A number that is in the book: the same sale again, or another one.
-fn sold_again(book: &[u32], place: usize, q: Question) -> Result<Receipt, Refusal>
-    requires { start_of place + width ≤ length book.now }
-    ensures { result ≡ again_answer (entry_at book.now place) place q }
+fn sold_again(entry: &Entry, place: usize, q: Question) -> Result<Receipt, Refusal>
+    ensures { result ≡ again_answer entry.now place q }
 {
-    if !book::entries::asks(book, place, q) {
+    if !entry.asks(q) {
         return Err(common::refuse(Reason::NumberTaken, place, 0));
     }
     Ok(Receipt {
-        outcome: Outcome::AlreadyBooked(book::entries::status_of(book, place)),
-        parts: book::entries::parts_of(book, place),
+        outcome: Outcome::AlreadyBooked(entry.status()),
+        parts: entry.parts(),
     })
 }
 
@@ -65,16 +64,15 @@ pub fn judge_cancel(book: &[u32], till: u32, sequence: u64) -> Result<Receipt, R
     ensures { result ≡ cancel_answer book.now till sequence }
 {
     let place = look_up(book, till, sequence)?;
-    Ok(cancelled_at(book, place))
+    Ok(cancelled(&book::entries::entry_at(book, place)))
 }
 
 // An entry that is to be cancelled: a live sale, or one that was cancelled before.
-fn cancelled_at(book: &[u32], place: usize) -> Receipt
-    requires { start_of place + width ≤ length book.now }
-    ensures { result ≡ cancel_receipt (entry_at book.now place) }
+fn cancelled(entry: &Entry) -> Receipt
+    ensures { result ≡ cancel_receipt entry.now }
 {
-    let parts = book::entries::parts_of(book, place);
-    if book::entries::status_of(book, place) == 0 {
+    let parts = entry.parts();
+    if entry.status() == 0 {
         return Receipt {
             outcome: Outcome::Cancelled,
             parts,

@@ -62,7 +62,7 @@ pub fn cancel(book: &mut [u32], till: u32, sequence: u64) -> Result<Receipt, Ref
 {
     let receipt = judged::judge_cancel(book, till, sequence)?;
     if let Outcome::Cancelled = receipt.outcome {
-        let place = book::entries::find(book, till, sequence as u32);
+        let place = book::entries::find(book, till, sequence as u32).unwrap();
         book::changes::cancel_entry(book, place);
     }
     Ok(receipt)

@@ -1,10 +1,10 @@
 // The sales of a book as it has them: how many, one by its place, and one by its number. Nothing is changed.
-ghost use Rattle.std.specs.Prelude.{◌≡◌, ◌+◌, ◌≤◌, length};
-ghost use Rattle.book.specs.Words.{width, start_of, entry_at};
+ghost use Rattle.std.specs.Prelude.{◌≡◌};
 ghost use Rattle.sales.specs.Reading.{booking_at, count_answer, entry_answer, find_answer};
 ghost use Rattle.sales.specs.Helpers.{looked_up};
 
 use super::Booking;
+use book::entries::Entry;
 use common::{Reason, Refusal};
 
 // Where the sale of a number stands.
@@ -17,24 +17,19 @@ pub fn look_up(book: &[u32], till: u32, sequence: u64) -> Result<usize, Refusal>
     if !book::sound::is_number(till, sequence) {
         return Err(common::refuse(Reason::NumberOutside, 0, 0));
     }
-    let place = book::entries::find(book, till, sequence as u32);
-    if book::entries::count(book) <= place {
-        return Err(common::refuse(Reason::SaleUnknown, 0, 0));
-    }
-    Ok(place)
+    book::entries::find(book, till, sequence as u32).ok_or(common::refuse(Reason::SaleUnknown, 0, 0))
 }
 
-fn booking_at(book: &[u32], entry: usize) -> Booking
-    requires { start_of entry + width ≤ length book.now }
-    ensures { result ≡ booking_at entry (entry_at book.now entry) }
+fn booking(sale: &Entry, entry: usize) -> Booking
+    ensures { result ≡ booking_at entry sale.now }
 {
     Booking {
         entry,
-        till: book::entries::till_of(book, entry),
-        sequence: book::entries::sequence_of(book, entry),
-        question: book::entries::question_of(book, entry),
-        parts: book::entries::parts_of(book, entry),
-        status: book::entries::status_of(book, entry),
+        till: sale.till(),
+        sequence: sale.sequence(),
+        question: sale.question(),
+        parts: sale.parts(),
+        status: sale.status(),
     }
 }
 
@@ -58,7 +53,7 @@ pub fn entry(book: &[u32], entry: usize) -> Result<Booking, Refusal>
     if book::entries::count(book) <= entry {
         return Err(common::refuse(Reason::SaleUnknown, 0, 0));
     }
-    Ok(booking_at(book, entry))
+    Ok(booking(&book::entries::entry_at(book, entry), entry))
 }
 
 // The sale that has a number.
@@ -66,5 +61,5 @@ pub fn find(book: &[u32], till: u32, sequence: u64) -> Result<Booking, Refusal>
     ensures { result ≡ find_answer book.now till sequence }
 {
     let entry = look_up(book, till, sequence)?;
-    Ok(booking_at(book, entry))
+    Ok(booking(&book::entries::entry_at(book, entry), entry))
 }

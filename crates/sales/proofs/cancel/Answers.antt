@@ -4,7 +4,7 @@ use Rattle.std.proofs.Common.{sym, ◌∙◌, ap, arith}
 use Rattle.std.proofs.lemmas.Result.{err_from_is_err_and}
 use Rattle.book.specs.Changes.{cancelled_at}
 use Rattle.book.proofs.SoundBook.{is_sound, fits_word}
-use Rattle.sales.proofs.AnswersByCase.{cancelled_sound, cancelled_writes, not_cancelled_stays, refused_cancel_stays}
+use Rattle.sales.proofs.AnswersByCase.{found_at, found_somewhere, cancelled_sound, cancelled_writes, not_cancelled_stays, refused_cancel_stays}
 use Rattle.sales.proofs.cancel.Goals as goal
 
 pub returns-in_err-receipt-clause-value : goal.returns-in_err-receipt-clause-value
@@ -19,8 +19,8 @@ pub overflow_cast-sequence : goal.overflow_cast-sequence
 overflow_cast-sequence c =
     omega (arith, fits_word c.args.till c.args.sequence (cancelled_sound _ _ _ (sym c.judge_cancel.ensures ∙ c.in_ok-receipt.was) c.in-Cancelled.is).1)
 
-pub find-place-requires : goal.find-place-requires
-find-place-requires c =
+pub find-requires : goal.find-requires
+find-requires c =
     let k = cancelled_sound _ _ _ (sym c.judge_cancel.ensures ∙ c.in_ok-receipt.was) c.in-Cancelled.is in
     let s = is_sound _ k.0 in
     omega (arith, s.long, s.few)
@@ -29,7 +29,13 @@ pub cancel_entry-requires : goal.cancel_entry-requires
 cancel_entry-requires c =
     let k = cancelled_sound _ _ _ (sym c.judge_cancel.ensures ∙ c.in_ok-receipt.was) c.in-Cancelled.is in
     let s = is_sound _ k.0 in
-    omega (arith, s.long, s.few, k.2, c.find-place.ensures)
+    let f = found_at _ _ _ (sym c.find.ensures ∙ c.unwrap-place.ensures) in
+    omega (arith, s.long, s.few, f.1)
+
+pub unwrap-place-requires : goal.unwrap-place-requires
+unwrap-place-requires c =
+    let k = cancelled_sound _ _ _ (sym c.judge_cancel.ensures ∙ c.in_ok-receipt.was) c.in-Cancelled.is in
+    rw c.find.ensures (found_somewhere _ _ _ k.2)
 
 pub returns-in-Cancelled-clause-value : goal.returns-in-Cancelled-clause-value
 returns-in-Cancelled-clause-value c = sym c.in_ok-receipt.was ∙ c.judge_cancel.ensures
@@ -37,7 +43,7 @@ returns-in-Cancelled-clause-value c = sym c.in_ok-receipt.was ∙ c.judge_cancel
 pub returns-in-Cancelled-clause-book_after : goal.returns-in-Cancelled-clause-book_after
 returns-in-Cancelled-clause-book_after c =
     c.cancel_entry.ensures
-    ∙ (ap (cancelled_at c.args.book.now) c.find-place.ensures
+    ∙ (ap (cancelled_at c.args.book.now) (sym (found_at _ _ _ (sym c.find.ensures ∙ c.unwrap-place.ensures)).0)
     ∙ sym (cancelled_writes _ _ _ (sym c.judge_cancel.ensures ∙ c.in_ok-receipt.was) c.in-Cancelled.is))
 
 pub returns-in_default-clause-value : goal.returns-in_default-clause-value

@@ -13,11 +13,11 @@ returns-in_err-place c =
     let p = err_from_is_err_and c.from_residual.result c.from_residual.ensures.1 in
     rw (p.1, p.2) (sym (cancel_refused _ _ _ (looked_up_refused _ _ _ (sym c.look_up.ensures ∙ c.in_err-place.was))))
 
-pub cancelled_at-requires : goal.cancelled_at-requires
-cancelled_at-requires c = looked_up_inside _ _ _ (sym c.look_up.ensures ∙ c.in_ok-place.was)
+pub entry_at-requires : goal.entry_at-requires
+entry_at-requires c = looked_up_inside _ _ _ (sym c.look_up.ensures ∙ c.in_ok-place.was)
 
 pub returns : goal.returns
 returns c =
     let e = sym c.look_up.ensures ∙ c.in_ok-place.was in
-    ap Ok c.cancelled_at.ensures
+    ap Ok (c.cancelled.ensures ∙ ap cancel_receipt c.entry_at.ensures)
     ∙ sym (cancel_answered _ _ _ (looked_up_at _ _ _ e).0 ∙ ap (λ (x : Entry). Ok (cancel_receipt x)) (looked_up_entry _ _ _ e))

@@ -12,11 +12,11 @@ returns-in_err-entry c =
     let p = err_from_is_err_and c.from_residual.result c.from_residual.ensures.1 in
     rw (p.1, p.2) (sym (find_refused _ _ _ (looked_up_refused _ _ _ (sym c.look_up.ensures ∙ c.in_err-entry.was))))
 
-pub booking_at-requires : goal.booking_at-requires
-booking_at-requires c = looked_up_inside _ _ _ (sym c.look_up.ensures ∙ c.in_ok-entry.was)
+pub entry_at-requires : goal.entry_at-requires
+entry_at-requires c = looked_up_inside _ _ _ (sym c.look_up.ensures ∙ c.in_ok-entry.was)
 
 pub returns : goal.returns
 returns c =
     let e = sym c.look_up.ensures ∙ c.in_ok-entry.was in
-    ap Ok c.booking_at.ensures
+    ap Ok (c.booking.ensures ∙ ap (booking_at c.in_ok-entry.entry) c.entry_at.ensures)
     ∙ sym (find_answered _ _ _ (looked_up_at _ _ _ e).0 ∙ ap₂ (λ k x. Ok (booking_at k x)) (looked_up_at _ _ _ e).1 (looked_up_entry _ _ _ e))
