@@ -2,44 +2,38 @@
 -- Assumes nothing.
 use Prim.Native.Nat.{ℕ, ◌+◌, ◌*◌, ◌≤◌, ◌<◌}
 use mathlib.Core.Path.{◌≡◌, refl, sym, ◌∙◌, ap}
-use mathlib.Core.Bool.{Bool, true, false, cond, ◌||◌}
+use mathlib.Core.Bool.{Bool, true, false, cond}
 use mathlib.Core.List.{List, [], ◌∷◌, map, map-append}
 use native.Mathlib.Numerals.{add-one}
 use native.Mathlib.Omega.{arith}
 use lib.Dec.{eqb}
 use lib.ListN.{get_or}
-use borrow.Author.Tests.{ne_eqb}
+use Rattle.std.proofs.Common.{Option, Some, None}
 use Rattle.common.specs.Lists.{sum, up_to}
 use Rattle.common.proofs.Sums.{sum_append, sum_up_small}
-use Rattle.common.proofs.Tests.{in_range}
-use Rattle.layout.specs.Company.{is_railway}
 use Rattle.book.specs.Words.{Entry, count_of, railway_at, entry_of, entry_words, entry_at, entries, asked_at, parts_at, start_of, legs_at, leg_width}
-use Rattle.book.specs.Amounts.{of_railway, of_all, live_amount, balance_of}
-use Rattle.book.specs.Helpers.{counted}
+use Rattle.book.specs.Amounts.{live_amount, balance_of}
+use Rattle.book.specs.Helpers.{counts_for, counted}
 use Rattle.book.proofs.SoundBook.{most}
 use Rattle.book.proofs.EntryWords.{word_at, part_at, railway_at_lem}
 
 -- what leg j of an entry comes to for a railway, or for all: its part if it counts, and else nothing
-abbrev pub counted_part : ℕ → List ℕ → List ℕ → ℕ → ℕ
-counted_part railway asked parts j = cond (eqb railway 0 || eqb (get_or asked (railway_at j) 0) railway) (get_or parts j 0) 0
+abbrev pub counted_part : Option ℕ → List ℕ → List ℕ → ℕ → ℕ
+counted_part railway asked parts j = cond (counts_for railway (get_or asked (railway_at j) 0)) (get_or parts j 0) 0
 
-module _ (b : List ℕ) (railway j : ℕ) (l : j < 8) where
-  pub leg_counts : {c : Bool} → c ≡ (eqb railway 0 || eqb (get_or b (asked_at + legs_at + leg_width * j) 0) railway) → c ≡ true
+module _ (b : List ℕ) (railway : Option ℕ) (j : ℕ) (l : j < 8) where
+  pub leg_counts : {c : Bool} → c ≡ counts_for railway (get_or b (asked_at + legs_at + leg_width * j) 0) → c ≡ true
       → counted_part railway (entry_of b).asked (entry_of b).parts j ≡ get_or b (parts_at + j) 0
   leg_counts e t = rw (railway_at_lem b j l, sym e ∙ t) (part_at b j l)
 
-  pub leg_counts_not : {c : Bool} → c ≡ (eqb railway 0 || eqb (get_or b (asked_at + legs_at + leg_width * j) 0) railway) → c ≡ false
+  pub leg_counts_not : {c : Bool} → c ≡ counts_for railway (get_or b (asked_at + legs_at + leg_width * j) 0) → c ≡ false
       → counted_part railway (entry_of b).asked (entry_of b).parts j ≡ 0
   leg_counts_not e t = rw (railway_at_lem b j l, sym e ∙ t)
 
 -- and over the eight legs
-pub counted_is : (railway : ℕ) (asked parts : List ℕ) → sum (up_to (counted_part railway asked parts) 8) ≡ counted railway asked parts
-counted_is railway asked parts = either (eqb railway 0)
-  where
-    either : (b : Bool) → sum (up_to (λ j. cond (b || eqb (get_or asked (railway_at j) 0) railway) (get_or parts j 0) 0) 8)
-        ≡ cond b (of_all asked parts) (of_railway railway asked parts)
-    either true = refl
-    either false = refl
+pub counted_is : (railway : Option ℕ) (asked parts : List ℕ) → sum (up_to (counted_part railway asked parts) 8) ≡ counted railway asked parts
+counted_is None asked parts = refl
+counted_is (Some railway) asked parts = refl
 
 -- AN ENTRY'S SHARE of a book is small, since each word is
 cond_small : (t : Bool) (x m : ℕ) → x ≤ m → cond t x 0 ≤ m
@@ -58,12 +52,12 @@ module _ (w : List ℕ) (words_Small : (k : ℕ) → get_or w k 0 ≤ most) wher
   part_small i j l =
       rw (part_at (entry_words w i) j l, word_at w i (parts_at + j) (omega arith)) (words_Small (start_of i + (parts_at + j)))
 
-  pub counted_small : (railway : ℕ) → Small w (counted railway)
+  pub counted_small : (railway : Option ℕ) → Small w (counted railway)
   counted_small railway i =
       let e = entry_at w i in
       rw (← counted_is railway e.asked e.parts)
       (sum_up_small (counted_part railway e.asked e.parts) most 8
-      (λ j l. cond_small (eqb railway 0 || eqb (get_or e.asked (railway_at j) 0) railway) (get_or e.parts j 0) most (part_small i j l)))
+      (λ j l. cond_small (counts_for railway (get_or e.asked (railway_at j) 0)) (get_or e.parts j 0) most (part_small i j l)))
 
 -- A BALANCE: nothing, one entry more
 module _ (f : List ℕ → List ℕ → ℕ) where
@@ -78,13 +72,6 @@ module _ (f : List ℕ → List ℕ → ℕ) where
 
   pub live_small : (w : List ℕ) → Small w f → (i : ℕ) → live_amount f (entry_at w i) ≤ most_of
   live_small w s i = cond_small (eqb (entry_at w i).status 0) (f (entry_at w i).asked (entry_at w i).parts) most_of (s i)
-
--- a railway's number is not the one that stands for all
-pub counted_railway : (railway : ℕ) (es : List Entry) → is_railway railway ≡ true → balance_of (counted railway) es ≡ balance_of (of_railway railway) es
-unfolding is_railway
-counted_railway railway es h =
-    let l = (in_range 1 railway 9999 h).0 in
-    ap (λ b. balance_of (λ asked parts. cond b (of_all asked parts) (of_railway railway asked parts)) es) (ne_eqb railway 0 (λ e. omega (arith, l, e)))
 
 -- THE SUM over the entries before i, and its turn: what entry i comes to is added
 abbrev pub Summed : (List ℕ → List ℕ → ℕ) → List ℕ → ℕ → ℕ → Type 0

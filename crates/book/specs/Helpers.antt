@@ -1,6 +1,6 @@
 -- Short names that contracts of inner functions and proofs use. Nothing here has to be believed: no contract of the engine's calls and no promise reaches it.
 -- Assumes nothing.
-use Rattle.std.specs.Prelude.{ℕ, ◌+◌, ◌*◌, ◌≤◌, ◌<◌, Bool, cond, ◌&&◌, List, [], ◌∷◌, eqb, get_or, take, drop}
+use Rattle.std.specs.Prelude.{ℕ, ◌+◌, ◌*◌, ◌≤◌, ◌<◌, Bool, true, ◌&&◌, List, [], ◌∷◌, Option, Some, None, eqb, get_or, take, drop}
 use Rattle.common.specs.Lists.{every, up_to}
 use Rattle.book.specs.Words.{Entry, no_entry, pairs_at, more_pairs_at, more_pairs_width, railway_at, third_at, fourth_at}
 use Rattle.book.specs.Sound.{is_zero}
@@ -30,6 +30,11 @@ unused_zero ws n =
     legs_clear ws n ∷
     [])
 
--- WHAT COUNTS by one number: 0 stands for all railways, as it does in the tables
-abbrev pub counted : ℕ → List ℕ → List ℕ → ℕ
-counted railway asked parts = cond (eqb railway 0) (of_all asked parts) (of_railway railway asked parts)
+-- WHAT COUNTS for a railway, and for all where none is named
+abbrev pub counts_for : Option ℕ → ℕ → Bool
+counts_for None leg = true
+counts_for (Some railway) leg = eqb leg railway
+
+abbrev pub counted : Option ℕ → List ℕ → List ℕ → ℕ
+counted None asked parts = of_all asked parts
+counted (Some railway) asked parts = of_railway railway asked parts

@@ -78,7 +78,7 @@ pub fn balance(book: &[u32], railway: u32) -> Result<u64, Refusal>
     if !layout::company::is_railway(railway) {
         return Err(common::refuse(Reason::OutsideLimits, 0, 0));
     }
-    Ok(book::sums::owed(book, railway))
+    Ok(book::sums::owed(book, Some(railway)))
 }
 
 // What all railways are owed.
@@ -88,5 +88,5 @@ pub fn total(book: &[u32]) -> Result<u64, Refusal>
     if !book::sound::is_sound(book) {
         return Err(common::refuse(Reason::BookUnsound, 0, 0));
     }
-    Ok(book::sums::owed(book, book::sums::ALL))
+    Ok(book::sums::owed(book, None))
 }

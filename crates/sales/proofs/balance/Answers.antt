@@ -3,8 +3,6 @@
 use Rattle.std.proofs.Common.{sym, ◌∙◌, ap}
 use Rattle.std.specs.Prelude.{Ok, Err}
 use Rattle.common.specs.Checks.{first_fault}
-use Rattle.book.specs.Words.{entries}
-use Rattle.book.proofs.BalanceSums.{counted_railway}
 use Rattle.sales.specs.Balances.{balance_answer}
 use Rattle.sales.proofs.balance.Goals as goal
 
@@ -23,4 +21,4 @@ pub returns : goal.returns
 unfolding balance_answer first_fault
 returns c =
     let own = sym c.if-not-is_railway.ensures in
-    rw (sym c.if-not-is_sound.ensures, own) (ap Ok (c.owed.ensures ∙ counted_railway c.args.railway (entries c.args.book.now) own))
+    rw (sym c.if-not-is_sound.ensures, own) (ap Ok c.owed.ensures)
