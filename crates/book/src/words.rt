@@ -68,10 +68,7 @@ fn leg_at(q: Question, j: usize) -> Leg
 {
     let count = q.count as usize;
     if count <= j {
-        return Leg {
-            railway: 0,
-            fare: 0,
-        };
+        return Leg::default();
     }
     let legs = q.legs;
     legs[j]

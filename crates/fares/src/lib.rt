@@ -17,7 +17,7 @@ use common::{Reason, Refusal};
 
 // A leg: its railway, and the plain fare per person in cents.
 #[repr(C)]
-#[derive(Clone, Copy)]
+#[derive(Clone, Copy, Default)]
 pub struct Leg {
     pub railway: u32,
     pub fare: u32,

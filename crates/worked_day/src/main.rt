@@ -13,10 +13,7 @@ const WORDS: usize = 16385;
 
 // One ticket over two railways.
 fn ticket(persons: u32, cards: [u32; 4]) -> Question {
-    let none = Leg {
-        railway: 0,
-        fare: 0,
-    };
+    let none = Leg::default();
     let first = Leg {
         railway: 1185,
         fare: 1010,
