@@ -19,15 +19,13 @@ use Rattle.layout.specs.Company.{is_company}
 use Rattle.layout.specs.Layout.{tables, table_count, table_at, end_of, length_of}
 use Rattle.layout.specs.Fields.{row_with, row_of, bytes_of, byte_of, number_in, is_first, day_row}
 use Rattle.layout.specs.Rules.{number_or_blank, most_persons, first_day_rule, last_day_rule, ruled, kept_beside, keeps_row, keeps_rules}
-use Rattle.layout.specs.Values.{Value, Means, Field, values}
-use Rattle.layout.specs.Values.{text, transferor, railway, number, number_or_blank_value, flag, flag_or_blank_lem, most_persons_value, rounding, factor, first_day_value, last_day_value}
+use Rattle.layout.specs.Values.{Value, Means, Field, values, text, transferor, railway, number, number_or_blank_value, flag, flag_or_blank_lem, most_persons_value, rounding, factor, first_day_value, last_day_value}
 use Rattle.layout.specs.declared.rows.Row.{Row}
 use Rattle.layout.specs.declared.rules.Rule.{Rule}
 use Rattle.layout.specs.declared.rules.Rule.TheVariants.{Text, Transferor, Railway, Number, NumberOrBlank, Flag, FlagOrBlank, MostPersons, Rounding, Factor, FirstDay, LastDay}
 use Rattle.layout.proofs.RuleNumbers.{alike_rules, same_rule, alike_rows, same_row}
 use Rattle.layout.proofs.Tables.{computed, keeps_field}
-use Rattle.layout.proofs.Meanings.{◌means◌, equal, either, text_means, blank_means, within_means, transferor_means}
-use Rattle.layout.proofs.Meanings.{most_number, factor_means, day_means, last_means}
+use Rattle.layout.proofs.Meanings.{◌means◌, equal, either, text_means, blank_means, within_means, transferor_means, most_number, factor_means, day_means, last_means}
 
 -- THE LIST OF VALUES AGREES WITH THE ROWS: kind, limits, and the field that a rule looks at,
 module _ (t f : ℕ) where

@@ -17,7 +17,11 @@ pub fn look_up(book: &[u32], till: u32, sequence: u64) -> Result<usize, Refusal>
     if !book::sound::is_number(till, sequence) {
         return Err(common::refuse(Reason::NumberOutside, 0, 0));
     }
-    book::entries::find(book, till, sequence as u32).ok_or(common::refuse(Reason::SaleUnknown, 0, 0))
+    book::entries::find(book, till, sequence as u32).ok_or(common::refuse(
+        Reason::SaleUnknown,
+        0,
+        0,
+    ))
 }
 
 fn booking(sale: &Entry, entry: usize) -> Booking
