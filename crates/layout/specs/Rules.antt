@@ -1,4 +1,4 @@
--- What each rule kind asks of a field, and the first field that breaks its rule (document 01, 'Values').
+-- What each rule asks of a field, and the first field that breaks its rule (document 01, 'Values').
 -- Assumes nothing.
 use Rattle.std.specs.Prelude.{ℕ, ◌-◌, List, [], ◌∷◌, Bool, cond, ◌&&◌, ◌||◌, eqb, leb}
 use Rattle.common.specs.Lists.{every, byte_at}

@@ -15,8 +15,7 @@ pub fn month_length(year: u32, month: u32) -> u32
     ensures { result ≡ month_length year month }
 {
     match month {
-        2 if is_leap_year(year) => 29,
-        2 => 28,
+        2 => if is_leap_year(year) { 29 } else { 28 },
         1..=12 => 30 + (month + month / 8) % 2,
         _ => 0,
     }
@@ -29,5 +28,5 @@ pub fn is_day(day: u32) -> bool
 {
     let year = day / 10000;
     let in_month = day % 100;
-    matches!(year, 1583..=9999) && 1 <= in_month && in_month <= month_length(year, day / 100 % 100)
+    1583 <= year && year <= 9999 && 1 <= in_month && in_month <= month_length(year, day / 100 % 100)
 }
