@@ -3,7 +3,6 @@ pub mod Least
 pub mod Lists
 pub mod Rising
 pub mod Only
-pub mod Fours
 pub mod Parts
 pub mod Digits
 pub mod Ranks

@@ -1,18 +1,11 @@
 -- Parts of a list that a slice is cut into.
 -- Assumes nothing.
-use Rattle.std.proofs.Common.{◌≡◌, ℕ, zero, suc, ◌+◌, ◌-◌, ◌≤◌, List, [], ◌∷◌, length, take, drop, zero-add, arith, length-drop, drop_of_length-le, take_all}
+use Rattle.std.proofs.Common.{◌≡◌, ℕ, zero, suc, ◌+◌, ◌-◌, ◌≤◌, List, [], ◌∷◌, length, take, drop, zero-add, arith, length-drop, take_all}
 use lib.Seq.{take-nil}
-
--- the rest from a place on
-pub rest_all : {A : Type 0} (s : List A) (at : ℕ) → take (length s - at) (drop at s) ≡ drop at s
-rest_all s at = take_all (length s - at) (drop at s) (rw length-drop (omega arith))
 
 -- what is taken past the end is the rest
 pub rest_taken : {A : Type 0} (s : List A) (at len : ℕ) → length s - at ≤ len → take len (drop at s) ≡ drop at s
 rest_taken s at len h = take_all len (drop at s) (rw length-drop h)
-
-pub beyond : {A : Type 0} (s : List A) (a b n m : ℕ) → length s ≤ a → length s ≤ b → take n (drop a s) ≡ take m (drop b s)
-beyond s a b n m h k = rw (drop_of_length-le s h, drop_of_length-le s k, take-nil n, take-nil m)
 
 -- the rest of a part is a part
 pub part_rest : {A : Type 0} (k m : ℕ) (s : List A) → drop k (take (k + m) s) ≡ take m (drop k s)

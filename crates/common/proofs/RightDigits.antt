@@ -1,6 +1,6 @@
 -- LAWS OF THE CHECK DIGIT: what doubling does to digits, that right digits count up to whole tens, and that one wrong digit is noticed.
 -- Assumes nothing.
-use Rattle.std.proofs.Common.{◌≡◌, ℕ, zero, suc, ◌+◌, ◌-◌, ◌*◌, ◌/◌, ◌%◌, ◌^◌, ◌<◌, ◌≤◌, Bool, true, false, cond, eqb, leb, List, [], ◌∷◌, length, get_or, sym, refl, ap, ◌∙◌, le_of_suc-le-suc, not-suc-le-zero, div-one, arith, ext_get_or, eq-eqb, ne_eqb, eqb-true, leb-true}
+use Rattle.std.proofs.Common.{◌≡◌, ℕ, zero, suc, ◌+◌, ◌-◌, ◌/◌, ◌%◌, ◌^◌, ◌<◌, ◌≤◌, Bool, true, false, cond, eqb, leb, List, [], ◌∷◌, length, get_or, sym, refl, ap, ◌∙◌, le_of_suc-le-suc, not-suc-le-zero, div-one, arith, ext_get_or, eq-eqb, ne_eqb, eqb-true, leb-true}
 use native.Mathlib.Nat.{suc_inj, div-div-eq-div-mul, pow-succ'}
 use borrow.Author.Tests.{eqb-false}
 use Rattle.common.specs.Lists.{every, up_to}
@@ -139,17 +139,6 @@ six_count number =
     go : (a b c d e check : ℕ) → check + (e + (d + (c + (b + (a + 0))))) ≡ a + b + c + d + e + check
     go a b c d e check = omega arith
 
-pub last_doubled : (number : ℕ) → (2 * number + number / 5 % 2) % 10 ≡ doubled (number % 10) % 10
-unfolding every up_to
-last_doubled number =
-    let d : ℕ = number % 10 in
-    let ten : number / 5 % 2 ≡ d / 5 = omega arith in
-    let tens : 2 * number + d / 5 ≡ 20 * (number / 10) + (2 * d + d / 5) = omega arith in
-    rw (ten, tens) (units (number / 10) (2 * d + d / 5) ∙ eqb-true _ _ (for_each_digit (λ d. eqb ((2 * d + d / 5) % 10) (doubled d % 10)) refl d (omega arith)))
-  where
-    units : (t m : ℕ) → (20 * t + m) % 10 ≡ m % 10
-    units t m = omega arith
-
 add_units : (a b c d : ℕ) → a % 10 ≡ b % 10 → c % 10 ≡ d % 10 → (a + c) % 10 ≡ (b + d) % 10
 add_units a b c d e f = omega (arith, e, f)
 
@@ -170,15 +159,3 @@ six_units number first third fifth e f g =
         let even = add_units b (b % 10) d (d % 10) (omega arith) (omega arith) in
         add_units (a + c + e + (b + d)) (a' + c' + e' + (b % 10 + d % 10)) check check (add_units (a + c + e) (a' + c' + e') (b + d) (b % 10 + d % 10) odd even) refl
         ∙ ap (◌% 10) (in_order a' (b % 10) c' (d % 10) e' check)
-
--- and the sum of the three, the two and the last digit is small
-pub six_small : (number first third fifth : ℕ) → number ≤ 4294967295 → first ≤ 2 * (number / 10) + 1 → third ≤ 2 * (number / 1000) + 1 → fifth ≤ 2 * (number / 100000) + 1
-    → first + third + fifth + (number / 100 + number / 10000) + number % 10 ≤ 4294967295
-six_small number first third fifth l a c e =
-    let a' : first ≤ 858993459 = omega arith in
-    let c' : third ≤ 8589935 = omega arith in
-    let e' : fifth ≤ 85899 = omega arith in
-    go first third fifth (number / 100) (number / 10000) (number % 10) a' c' e' (omega arith) (omega arith) (omega arith)
-  where
-    go : (a c e b d check : ℕ) → a ≤ 858993459 → c ≤ 8589935 → e ≤ 85899 → b ≤ 42949672 → d ≤ 429496 → check ≤ 9 → a + c + e + (b + d) + check ≤ 4294967295
-    go a c e b d check h i j k m n = omega arith

@@ -20,12 +20,6 @@ pub returns-in_err-v : goal.returns-in_err-v
 returns-in_err-v c =
     c.from_residual.ensures ∙ sym (c.loop-b.invariant.2 ∙ digits_stop c.loop-b.v _ _ c.loop-b-test.true (sym c.digit.ensures ∙ c.in_err-v.was))
 
-pub overflow_add-v : goal.overflow_add-v
-overflow_add-v c =
-    let l = c.loop-b in
-    let d = digits_more l.v _ _ c.loop-b-test.true (sym c.digit.ensures ∙ c.in_ok-v.was) in
-    omega (arith, small _ _ c.in_ok-v.field-0 l.invariant.1 d.0 (omega arith))
-
 pub loop-b-preserved : goal.loop-b-preserved
 loop-b-preserved c =
     let l = c.loop-b in

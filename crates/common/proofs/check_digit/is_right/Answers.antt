@@ -2,15 +2,12 @@
 -- Assumes nothing.
 use Rattle.std.proofs.Common.{◌/◌, ◌%◌, arith}
 use Rattle.common.specs.CheckDigit.{sum_from, check_digit, is_right, last_digits}
-use Rattle.common.proofs.RightDigits.{six_units, six_small, right_by_units}
+use Rattle.common.proofs.RightDigits.{six_units, right_by_units}
 use Rattle.common.proofs.check_digit.is_right.Goals as goal
 
 pub returns-then-number-eq0 : goal.returns-then-number-eq0
 unfolding sum_from check_digit is_right last_digits
 returns-then-number-eq0 c = rw c.if-number-eq0.true
-
-pub overflow_add-result-2 : goal.overflow_add-result-2
-overflow_add-result-2 c = omega (arith, six_small c.args.number _ _ _ (omega arith) c.doubled.ensures.0 c.doubled-2.ensures.0 c.doubled-3.ensures.0)
 
 pub returns : goal.returns
 unfolding last_digits

@@ -35,6 +35,3 @@ slice_bounds-result-end-2 c =
     let ends : (c.first_row-first.result ≤ c.first_row-end.result) × (c.first_row-end.result ≤ row_count) = let l = in_layout _ c.if-table-ge-TABLES.false in
     (rw (c.first_row-first.ensures, c.first_row-end.ensures) l.0, rw c.first_row-end.ensures l.1) in
     let e = ends in search rules
-
-pub returns : goal.returns
-returns c = rw (c.first_row-first.ensures, c.first_row-end.ensures)
