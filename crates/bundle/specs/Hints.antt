@@ -1,12 +1,12 @@
 -- Where the verdict looks for a link's record first. Nothing here has to be believed: no promise and no answer of a call is stated with it.
 -- Assumes nothing.
-use Rattle.std.specs.Prelude.{ℕ, ◌+◌, ◌*◌, ◌%◌, ◌≡◌, Bool, true, false, cond, List, Option, MatchOption, get_or}
+use Rattle.std.specs.Prelude.{ℕ, ◌+◌, ◌*◌, ◌%◌, ◌<◌, ◌≡◌, Bool, true, false, cond, List, Option, MatchOption, get_or}
 use Rattle.common.specs.Lists.{any}
 use Rattle.common.specs.Ranks.{rank_of}
 use Rattle.layout.specs.Fields.{offer_of, code_of}
 use Rattle.layout.specs.Helpers.{table_step}
 use Rattle.bundle.specs.Records.{Rec, rec, if_whole, between, records_of}
-use Rattle.bundle.specs.Links.{serves}
+use Rattle.bundle.specs.Links.{links, link_rows, no_link, serves, missing_link}
 use Rattle.bundle.specs.Helpers.{step_at, places_of}
 use Rattle.bundle.specs.declared.links.Link.{Link}
 
@@ -45,3 +45,8 @@ Found s l r p = IsPlace s p × (any (serves l r) (records_of s) ≡ true)
 
 abbrev pub SearchTells : List ℕ → Link → Rec → Option ℕ → Type 0
 SearchTells s l r found = MatchOption found (any (serves l r) (records_of s) ≡ false) (Found s l r)
+
+-- and what is told of the first link that a record lacks
+abbrev pub LinkTells : List Rec → Rec → Option Link → Type 0
+LinkTells R r told =
+    MatchOption told (missing_link R r ≡ links) (λ l. (missing_link R r < links) × (get_or link_rows (missing_link R r) no_link ≡ l))

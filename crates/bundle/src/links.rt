@@ -2,8 +2,8 @@
 ghost use Rattle.std.specs.Prelude.{◌≡◌, get_or, IfSome};
 ghost use Rattle.common.specs.Lists.{any};
 ghost use Rattle.bundle.specs.Records.{records_of, rec};
-ghost use Rattle.bundle.specs.Links.{link as link_of, link_rows, no_link, is_asked, railway_serves, joins, serves, lacks, missing_link};
-ghost use Rattle.bundle.specs.Hints.{IsPlace, Hinted, serves_at, Found, SearchTells};
+ghost use Rattle.bundle.specs.Links.{link as link_of, link_rows, no_link, is_asked, railway_serves, joins, serves, lacks};
+ghost use Rattle.bundle.specs.Hints.{IsPlace, Hinted, serves_at, Found, SearchTells, LinkTells};
 
 use super::walk::Step;
 
@@ -25,7 +25,7 @@ pub struct Link {
     pub detail: usize,
 }
 
-pub const LINKS: usize = 5;
+const LINKS: usize = 5;
 
 // How many records are near: so few that no link takes much longer than by the walk from the start alone.
 const NEAR: usize = 64;
@@ -43,7 +43,7 @@ fn row(table: u32, flag: Option<u32>, wants: u32, join: Join, detail: usize) -> 
 }
 
 // A `match`, because a constant array would be built anew for each record.
-pub fn link_at(k: usize) -> Link
+fn link_at(k: usize) -> Link
     ensures { result ≡ get_or link_rows k no_link }
 {
     match k {
@@ -208,15 +208,20 @@ fn lacks_link<'a>(bundle: &'a [u8], hints: &mut [u32], table: u32, r: &'a [u8], 
     !is_served(bundle, hints, table, r, k)
 }
 
-// The first link that a record of a table lacks, LINKS where it lacks none.
-pub fn missing_link<'a>(bundle: &'a [u8], hints: &mut [u32], table: u32, r: &'a [u8]) -> usize
+// The first link that a record of a table lacks.
+pub fn missing_link<'a>(
+    bundle: &'a [u8],
+    hints: &mut [u32],
+    table: u32,
+    r: &'a [u8],
+) -> Option<Link>
     requires { Hinted bundle.now hints.old }
-    ensures { (result ≡ missing_link (records_of bundle.now) (rec table r.now)) × Hinted bundle.now hints.new }
+    ensures { LinkTells (records_of bundle.now) (rec table r.now) result × Hinted bundle.now hints.new }
 {
     for k in 0..LINKS {
         if lacks_link(bundle, hints, table, r, k) {
-            return k;
+            return Some(link_at(k));
         }
     }
-    LINKS
+    None
 }

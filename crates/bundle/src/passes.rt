@@ -83,9 +83,7 @@ pub fn second_pass(
             p = e;
             j += 1;
         }
-        let k = super::links::missing_link(bundle, hints, table, r);
-        if k < super::links::LINKS {
-            let link = super::links::link_at(k);
+        if let Some(link) = super::links::missing_link(bundle, hints, table, r) {
             break 'records Err(common::refuse(Reason::LinkMissing, i, link.detail));
         }
         at = next;

@@ -16,7 +16,6 @@ use Rattle.common.proofs.Tests.{never}
 use Rattle.common.proofs.Least.{start as none_yet, more, hit}
 use Rattle.bundle.specs.Records.{Rec, rec, no_rec, between, records_of}
 use Rattle.bundle.specs.Keys.{clash, other_transferor, earlier_of}
-use Rattle.bundle.specs.Links.{link_rows, no_link}
 use Rattle.bundle.specs.declared.links.Link.{Link}
 use Rattle.bundle.specs.Apart.{Kept}
 use Rattle.bundle.proofs.Here.{Stands, here_start, stands, over_there, over_nil, over_count}
@@ -95,8 +94,8 @@ loop-j-preserved c =
     let clashing : c.clashes.result ≡ clash (lent) (get_or (records_of (bundle-of)) c.loop-j.j no_rec) = c.clashes.ensures ∙ rw found-2.at in
     (found-2.then, omega arith, more _ c.loop-j.j c.loop-j.invariant.2 (sym (clashing) ∙ c.if-clashes.false))
 
-pub missing_link-k-requires : goal.missing_link-k-requires
-missing_link-k-requires c = c.records.invariant.3
+pub missing_link-requires : goal.missing_link-requires
+missing_link-requires c = c.records.invariant.3
 
 pub overflow_add-i : goal.overflow_add-i
 overflow_add-i c =
@@ -127,8 +126,8 @@ records-preserved c =
           (λ t. w.is_apart-is_kept.ensures (sym w.is_kept-is ∙ t) c.records.i found.below found.at found.place (c.records.invariant.2 w.if-is_kept.true))
       | else-is_kept w ↦ λ t. never (sym w.is_kept-is ∙ t) w.if-is_kept.false
     ] in
-    let q = record_passes _ c.records.i (lent) found.cons (same_transferor) (omega (arith, apart)) (rw c.missing_link-k.ensures.0 at c.if-k-lt-LINKS.false) in
-    (found.then, c.records.invariant.1 ∙ q, (λ t. (told t).1), c.missing_link-k.ensures.1, search rules, search rules, search rules)
+    let q = record_passes _ c.records.i (lent) found.cons (same_transferor) (omega (arith, apart)) (omega (arith, c.in_default-missing_link.ensures.0)) in
+    (found.then, c.records.invariant.1 ∙ q, (λ t. (told t).1), c.in_default-missing_link.ensures.1, search rules, search rules, search rules)
 
 pub returns-in_default : goal.returns-in_default
 returns-in_default c =
@@ -171,13 +170,9 @@ returns-then-clashes c =
     let q = key_fault R c.records.i (lent) found.cons (same_transferor) (rw e c.loop-j-test.true) in
     as_found _ (c.records.invariant.1 ∙ q) (c.refuse-then-clashes.ensures ∙ rw e)
 
-pub shape_of-hints-then-k-lt-LINKS : goal.shape_of-hints-then-k-lt-LINKS
-shape_of-hints-then-k-lt-LINKS c =
-    let m = c.missing_link-k in let g = c.hints-1 in let o = c.records.invariant in search rules
-
-pub returns-then-k-lt-LINKS : goal.returns-then-k-lt-LINKS
+pub returns-in-Some : goal.returns-in-Some
 unfolding earlier_of
-returns-then-k-lt-LINKS c =
+returns-in-Some c =
     let bundle-of : List ℕ = c.args.bundle.now in
     let lent : Rec = rec c.in-Whole.table (between c.in-Whole.start c.in-Whole.next (bundle-of)) in
     let found : Stands (bundle-of) c.records.at c.records.i c.in-Whole.table c.in-Whole.start c.in-Whole.next = stands _ _ _ c.records.invariant.0 c.step_at-here.ensures c.in-Whole.is in
@@ -185,5 +180,5 @@ returns-then-k-lt-LINKS c =
     let apart : earlier_of (records_of (bundle-of)) c.records.i (lent) ≡ c.records.i = let e : c.loop-j.j ≡ c.records.i = omega arith in
     rw e at c.loop-j.invariant.2 in
     let same_transferor : other_transferor (records_of (bundle-of)) (lent) ≡ false = transferor ∙ c.if-not-same_bytes.false-raw in
-    let q = link_fault _ c.records.i (lent) found.cons (same_transferor) (omega (arith, apart)) (rw c.missing_link-k.ensures.0 at c.if-k-lt-LINKS.true) in
-    as_found _ (c.records.invariant.1 ∙ q) (c.refuse-then-k-lt-LINKS.ensures ∙ ap (λ (l : Link). refuse LinkMissing c.records.i l.detail) (c.link_at-link.ensures ∙ ap (λ j. get_or link_rows j no_link) c.missing_link-k.ensures.0))
+    let q = link_fault _ c.records.i (lent) found.cons (same_transferor) (omega (arith, apart)) c.in-Some.ensures.0.0 in
+    as_found _ (c.records.invariant.1 ∙ q) (c.refuse-in-Some.ensures ∙ ap (λ (l : Link). refuse LinkMissing c.records.i l.detail) (sym c.in-Some.ensures.0.1))
