@@ -6,7 +6,8 @@ ghost use Rattle.bundle.specs.Hints.{Hinted};
 use super::walk::Step;
 use common::{Reason, Refusal};
 
-// Each record by itself: 2, then 3, then 4.
+// Each record by itself: 2, then 3, then 4. What it keeps on the stack is free again before the second pass takes its room there.
+#[inline(never)]
 pub fn first_pass(bundle: &[u8]) -> Result<usize, Refusal>
     ensures { result ≡ first_tells bundle.now }
 {

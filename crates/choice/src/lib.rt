@@ -76,14 +76,17 @@ fn fit(wanted: Wanted, table: u32, body: &[u8]) -> Role
 fn noted(before: Choice, f: Role, place: usize) -> Choice
     ensures { result ≡ noted_at before f place }
 {
+    // most records are others: these are passed first
+    if let Role::Other = f {
+        return before;
+    }
     if let Choice::At(_) = before {
         return before;
     }
-    match f {
-        Role::Other => before,
-        Role::General => Choice::At(place),
-        _ => Choice::NotThatDay,
+    if let Role::General = f {
+        return Choice::At(place);
     }
+    Choice::NotThatDay
 }
 
 pub fn choose(bundle: &[u8], wanted: Wanted) -> Choice
