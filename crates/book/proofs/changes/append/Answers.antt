@@ -3,21 +3,13 @@
 use Prim.Native.Nat.{◌+◌}
 use mathlib.Core.Path.{◌≡◌, ap}
 use native.Mathlib.Omega.{arith}
-use lib.ListN.{length, set, length-set}
+use lib.ListN.{length, set}
 use lib.Seq.{paste}
 use Rattle.book.specs.Words.{width, start_of, count_of, booking, words_of}
 use Rattle.book.specs.Changes.{added}
 use Rattle.book.proofs.EntryWords.{entry_put}
 use borrow.Author.Rules.{rules}
 use Rattle.book.proofs.changes.append.Goals as goal
-
-pub shape_of-book : goal.shape_of-book
-shape_of-book c =
-    let eight : length c.args.parts ≡ 8 = search rules in
-    let made : let a = c.args in let d = c.put-4.new.book in (d ≡ paste a.book.now (start_of (count_of a.book.now)) (words_of (booking a.till a.sequence a.q a.parts)) width) × (length d ≡ length a.book.now) = let a = c.args in
-    entry_put a.book.now (start_of (count_of a.book.now)) a.till a.sequence a.q a.parts (eight) (omega (arith, c.requires))
-    c.question_words-asked.ensures c.put.ensures c.put-2.ensures c.put-3.ensures c.put-4.ensures in
-    simp length-set made.1
 
 pub returns : goal.returns
 unfolding added

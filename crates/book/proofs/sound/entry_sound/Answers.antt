@@ -45,11 +45,6 @@ returns-then-not-all_bounded c =
     let bounded = sym (c.all_bounded.ensures ∙ ap (λ b. is_bounded b (entry_of c.args.words.now).parts) (bounds c.block-asked.ensures c.cards_in-cards.ensures c.part_bound.ensures)) ∙ c.if-not-all_bounded.true in
     rw (number, asked, bounded)
 
-pub overflow_add-first : goal.overflow_add-first
-overflow_add-first c =
-    let asked = sym (c.asked_sound.ensures ∙ ap asked_sound c.block-asked.ensures) ∙ c.if-not-asked_sound.false in
-    omega (arith, few c.args.words.now asked)
-
 pub slice_bounds-all_zero-count : goal.slice_bounds-all_zero-count
 slice_bounds-all_zero-count c =
     let asked = sym (c.asked_sound.ensures ∙ ap asked_sound c.block-asked.ensures) ∙ c.if-not-asked_sound.false in

@@ -3,7 +3,7 @@
 use Prim.Native.Nat.{◌+◌}
 use mathlib.Core.Path.{◌≡◌, refl, sym, ◌∙◌, ap}
 use native.Mathlib.Omega.{arith}
-use borrow.Author.Tests.{eq-eqb, ne_eqb}
+use borrow.Author.Tests.{eq-eqb}
 use Rattle.common.specs.Lists.{sum, up_to}
 use Rattle.common.proofs.Sums.{sum_up}
 use Rattle.book.specs.Words.{entry_of, parts_at}
@@ -11,18 +11,9 @@ use Rattle.book.proofs.BalanceSums.{counted_part, leg_counts, leg_counts_not, co
 use Rattle.book.proofs.sums.entry_owed.Goals as goal
 use Rattle.book.proofs.sums.entry_owed.Goals.{then-counts, else-counts}
 
-pub returns-then-words-ne0 : goal.returns-then-words-ne0
-returns-then-words-ne0 c = sym (rw (ne_eqb _ _ c.if-words-ne0.true))
-
 pub loop-j-init : goal.loop-j-init
 unfolding sum up_to
 loop-j-init c = (omega arith, refl)
-
-pub overflow_cast-sum : goal.overflow_cast-sum
-overflow_cast-sum c = omega (arith, c.fits-words (parts_at + c.loop-j.j))
-
-pub overflow_add-sum-then-counts : goal.overflow_add-sum-then-counts
-overflow_add-sum-then-counts c = omega (arith, c.fits-words (parts_at + c.loop-j.j))
 
 pub loop-j-preserved : goal.loop-j-preserved
 loop-j-preserved c =

@@ -5,9 +5,6 @@ use mathlib.Core.Bool.{and_assoc, and-true}
 use Rattle.common.proofs.Lists.{every_step, every_end}
 use Rattle.book.proofs.words.all_bounded.Goals as goal
 
-pub loop-word-init : goal.loop-word-init
-loop-word-init c = refl
-
 pub loop-word-preserved : goal.loop-word-preserved
 loop-word-preserved c =
     let a = c.args in

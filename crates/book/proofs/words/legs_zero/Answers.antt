@@ -31,16 +31,6 @@ leg-behind ws j long l =
       behind ws (fourth_at j) (railway_at (j + 1)) (omega arith) (omega arith),
     )
 
-pub loop-j-init : goal.loop-j-init
-loop-j-init c = (omega arith, omega arith)
-
-pub overflow_add-sum : goal.overflow_add-sum
-overflow_add-sum c =
-    let small : c.sum_of_four-sum.result ≤ 4 * most = let k = c.fits-words in
-    let j = c.loop-j.j in
-    omega (arith, c.sum_of_four-sum.ensures, k (railway_at j), k (fare_at j), k (third_at j), k (fourth_at j)) in
-    omega (arith, small)
-
 pub loop-j-preserved : goal.loop-j-preserved
 loop-j-preserved c =
     let small : c.sum_of_four-sum.result ≤ 4 * most = let k = c.fits-words in

