@@ -1,21 +1,23 @@
 -- "Its numbers differ". Of two entries none has the other's number, so that a number is held at one place at most; an entry with a new number keeps this.
 -- A number that ranks above all earlier ones repeats none of them.
 -- Assumes nothing.
-use Prim.Native.Nat.{ℕ, ◌+◌, ◌≤◌, ◌<◌}
-use mathlib.Core.Path.{◌≡◌, refl, subst}
-use mathlib.Core.Bool.{Bool, true, false, cond}
-use mathlib.Core.List.{List, [], ◌∷◌, ◌++◌}
+use Prim.Native.Nat.{ℕ, suc, ◌+◌, ◌≤◌, ◌<◌}
+use mathlib.Core.Path.{◌≡◌, refl, sym, ◌∙◌, ap, subst}
+use mathlib.Core.Bool.{Bool, true, false, cond, not}
+use mathlib.Core.List.{List, [], ◌∷◌, ◌++◌, map}
 use mathlib.Core.Logic.{◌⊎◌, inl, inr, ⊎_elim}
 use native.Mathlib.Omega.{arith}
 use lib.Dec.{eqb, ltb}
-use lib.ListN.{length, get_or, take, length-append, get_or-append}
+use lib.ListN.{length, get_or, take, length-map, length-append, get_or-append}
 use lib.Seq.{get_or_at, get_or-take, length-take-le}
 use Rattle.std.proofs.Common.{Some, None, is_some}
-use borrow.Author.Tests.{eqb-true, eq-eqb, ne_eqb, ltb-true, ltb-false, lt-ltb, le-ltb}
+use Rattle.std.specs.List.{position, prefix_len}
+use borrow.Author.Tests.{eqb-true, eq-eqb, ne_eqb, ltb-true, ltb-false}
 use Rattle.common.specs.Least.{least}
 use Rattle.common.proofs.Least.{hit, none, before, passes, finds_none, none_finds, alike}
+use Rattle.common.proofs.Sums.{map_at}
 use Rattle.common.proofs.Tests.{order, side, never, both_true, refuted}
-use Rattle.book.specs.Words.{Entry, no_entry}
+use Rattle.book.specs.Words.{Entry, no_entry, entry_of}
 use Rattle.book.specs.Sound.{has_number, held_at, held, repeats, numbers_differ}
 use Rattle.book.specs.Helpers.{rank_of, RanksUpTo}
 
@@ -60,18 +62,28 @@ module _ (t s : ℕ) (es : List Entry) where
   pub held_not_elsewhere : numbers_differ es ≡ true → (j : ℕ) → j < length es → (j ≡ held_at t s es → ⊥) → has_number t s (get_or es j no_entry) ≡ false
   held_not_elsewhere d j l n = refuted (has_number t s (get_or es j no_entry)) (λ p. n (omega (arith, held_only d j l p)))
 
--- A SEARCH among entries: it comes to one that has the number, or to the end, or has passed those in front
+-- A SEARCH among the words of entries comes to the first that has the number
+prefix_least : {A : Type 0} (p : A → Bool) (d : A) (xs : List A) → prefix_len (λ x. not (p x)) xs ≡ least (λ k. p (get_or xs k d)) (length xs)
+unfolding least
+prefix_least p d [] = refl
+prefix_least p d (x ∷ xs) = go (p x) (prefix_least p d xs)
+  where
+    go : {m n : ℕ} (b : Bool) → m ≡ n → cond (not b) (1 + m) 0 ≡ cond b 0 (suc n)
+    go true e = refl
+    go false e = omega (arith, e)
+
+pub first_held : (t s : ℕ) (bs : List (List ℕ)) → position (λ ws. has_number t s (entry_of ws)) bs ≡ held t s (map entry_of bs)
+unfolding held_at
+first_held t s bs =
+    let p : List ℕ → Bool = λ ws. has_number t s (entry_of ws) in
+    let e : prefix_len (λ ws. not (p ws)) bs ≡ least (λ k. has_number t s (get_or (map entry_of bs) k no_entry)) (length bs) =
+    prefix_least p [] bs ∙ alike _ _ (length bs) (λ k l. ap (has_number t s) (sym (map_at entry_of bs k no_entry [] l))) in
+    rw (length-map, e)
+
+-- and among those in front of entry i it tells whether one has it
 module _ (t s : ℕ) (es : List Entry) where
-  abbrev pub has_it : ℕ → Bool
+  abbrev has_it : ℕ → Bool
   has_it k = has_number t s (get_or es k no_entry)
-
-  pub comes_to : (i : ℕ) → least has_it i ≡ i → has_it i ≡ true → i < length es → held t s es ≡ Some i
-  unfolding held_at
-  comes_to i e h l = rw (hit has_it i (length es) e h l, lt-ltb i (length es) l)
-
-  pub comes_to_none : least has_it (length es) ≡ length es → held t s es ≡ None
-  unfolding held_at
-  comes_to_none e = rw (e, le-ltb (length es) (length es) (omega arith))
 
   pub in_front : (i : ℕ) → i ≤ length es → is_some (held t s (take i es)) ≡ ltb (least has_it i) i
   unfolding held_at

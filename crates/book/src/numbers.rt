@@ -1,24 +1,25 @@
 // The sale numbers of a book's entries: one looked for among them, and that they differ.
-ghost use Rattle.std.specs.Prelude.{◌≡◌, ◌<◌, length, map};
+ghost use Rattle.std.specs.Prelude.{◌≡◌, ◌<◌, length, map, position};
 ghost use Rattle.book.specs.Words.{entry_of};
-ghost use Rattle.book.specs.Sound.{held, repeats, numbers_differ};
+ghost use Rattle.book.specs.Sound.{has_number, held, repeats, numbers_differ};
 ghost use Rattle.book.specs.Helpers.{rank_of, RanksUpTo};
 
 use super::words::{SEQUENCE, TILL, WIDTH};
 
+// Whether an entry has a number. The sequence first: it is the one that tells the entries of a till apart.
+fn has_number(words: &[u32; WIDTH], till: u32, sequence: u32) -> bool
+    ensures { result ≡ has_number till sequence (entry_of words.now) }
+{
+    words[SEQUENCE] == sequence && words[TILL] == till
+}
+
 // Where the first of some entries that has a number stands.
 pub fn find_in(entries: &[[u32; WIDTH]], till: u32, sequence: u32) -> Option<usize>
-    ensures { result ≡ held till sequence (map entry_of entries.now) }
+    ensures { result ≡ position (λ ws. has_number till sequence (entry_of ws)) entries.now }
 {
-    // the sequence first: it is the one that tells the entries of a till apart
-    for (i, words) in entries.iter().enumerate() {
-        if words[SEQUENCE] == sequence {
-            if words[TILL] == till {
-                return Some(i);
-            }
-        }
-    }
-    None
+    entries
+        .iter()
+        .position(|words| has_number(words, till, sequence))
 }
 
 // The sale number of an entry, as one number.

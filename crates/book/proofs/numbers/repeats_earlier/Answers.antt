@@ -7,7 +7,7 @@ use Rattle.common.proofs.Sums.{map_at}
 use Rattle.book.specs.Words.{Entry, no_entry, entry_of, till_at, sequence_at}
 use Rattle.book.specs.Helpers.{rank_of}
 use Rattle.book.specs.Sound.{held, repeats}
-use Rattle.book.proofs.NumbersDiffer.{above_none, in_front}
+use Rattle.book.proofs.NumbersDiffer.{above_none, first_held, in_front}
 use Rattle.book.proofs.numbers.repeats_earlier.Goals as goal
 
 -- what stands in front of entry i has its number
@@ -26,4 +26,4 @@ returns-then-top-rank c =
     sym (above_none (map entry_of a.entries.now) a.i a.top c.requires.1 (omega (arith, r, c.rank.ensures, c.if-top-rank.true)))
 
 pub returns : goal.returns
-returns c = let a = c.args in c.is_some.ensures ∙ (ap is_some c.find_in.ensures ∙ looked_for a.entries.now a.i c.requires.0)
+returns c = let a = c.args in c.is_some.ensures ∙ (ap is_some (c.find_in.ensures ∙ first_held _ _ _) ∙ looked_for a.entries.now a.i c.requires.0)
