@@ -8,6 +8,7 @@ use mathlib.Core.Logic.{◌⊎◌, inl, inr, ⊎_elim}
 use native.Mathlib.Omega.{arith}
 use lib.Dec.{eqb, leb, ltb}
 use borrow.Author.Tests.{eqb-true, eq-eqb, ne_eqb, leb-true, le-leb, ltb-true}
+use Rattle.std.specs.Prelude.{Some, None}
 use Rattle.common.specs.declared.reasons.Reason.{Reason}
 use Rattle.common.specs.declared.reasons.Reason.TheVariants.{NoConditions, DayOutside, PersonsOutside, ConditionUnread}
 use Rattle.common.specs.Lists.{every, any}
@@ -54,71 +55,71 @@ module _ (co : List ℕ) (persons : ℕ) where
       by_most true u = le-leb _ _ (⊎_elim (λ l. omega (arith, eqb-true (number_in CO 29 co) 0 u)) (λ l. l.1) h.1)
       by_most false u = le-leb _ _ (⊎_elim (λ l. l) (λ l. never (eq-eqb (number_in CO 29 co) 0 l.0) u) h.1)
 
--- THE CONDITIONS UNREAD: fields that are flags, none of which has the number 0
+-- THE CONDITIONS UNREAD, fields that are flags
 abbrev AreFlags : List ℕ → Type 0
-AreFlags fs = every (λ f. is_flag_row (row_of CO f) && ltb 0 f) fs ≡ true
+AreFlags fs = every (λ f. is_flag_row (row_of CO f)) fs ≡ true
+
+abbrev is_set : List ℕ → ℕ → Bool
+is_set co f = eqb (byte_of CO f co) byte_Y
 
 module _ (co : List ℕ) where
-  yes_is : (f : ℕ) → is_flag_row (row_of CO f) ≡ true → is_yes CO f co ≡ eqb (byte_of CO f co) byte_Y
+  yes_is : (f : ℕ) → is_flag_row (row_of CO f) ≡ true → is_yes CO f co ≡ is_set co f
   unfolding is_yes
   yes_is f e = rw e
 
-  pub set_means : (fs : List ℕ) → AreFlags fs → ((first_set fs co ≡ 0) × NoneSet fs co) ⊎ (FirstSet fs co (first_set fs co) × (0 < first_set fs co))
-  unfolding every any first_set
+  abbrev SetOrNot : List ℕ → Type 0
+  SetOrNot fs = ((first_set fs co ≡ None) × NoneSet fs co) ⊎ ((f : ℕ) × (first_set fs co ≡ Some f) × FirstSet fs co f)
+
+  set_means : (fs : List ℕ) → AreFlags fs → SetOrNot fs
+  unfolding every any
   set_means [] e = inl (refl, refl)
   set_means (f ∷ fs) e =
-      let b = both_true (is_flag_row (row_of CO f) && ltb 0 f) (every (λ f. is_flag_row (row_of CO f) && ltb 0 f) fs) e in
-      let d = both_true (is_flag_row (row_of CO f)) (ltb 0 f) b.0 in
-      rw (yes_is f d.0) (go (eqb (byte_of CO f co) byte_Y) refl (ltb-true 0 f d.1) (set_means fs b.1))
+      let b = both_true (is_flag_row (row_of CO f)) (every (λ f. is_flag_row (row_of CO f)) fs) e in
+      rw (yes_is f b.0) (go (is_set co f) refl (set_means fs b.1))
     where
-      go : (y : Bool) → eqb (byte_of CO f co) byte_Y ≡ y → 0 < f → ((first_set fs co ≡ 0) × NoneSet fs co) ⊎ (FirstSet fs co (first_set fs co) × (0 < first_set fs co))
-          → let g = cond y f (first_set fs co) in ((g ≡ 0) × NoneSet (f ∷ fs) co) ⊎ (FirstSet (f ∷ fs) co g × (0 < g))
-      go true y l ih = inr (record { earlier = []; later = fs; split = refl; set = eqb-true _ _ y; none_earlier = refl }, l)
-      go false y l (inl h) = inl (h.0, rw y h.1)
-      go false y l (inr h) =
-          let r = h.0 in
-          inr (
-            record { earlier = f ∷ r.earlier; later = r.later; split = ap (f ∷◌) r.split; set = r.set; none_earlier = rw y r.none_earlier },
-            h.1,
-          )
+      go : (y : Bool) → is_set co f ≡ y → SetOrNot fs
+          → let g = cond y (Some f) (first_set fs co) in ((g ≡ None) × NoneSet (f ∷ fs) co) ⊎ ((h : ℕ) × (g ≡ Some h) × FirstSet (f ∷ fs) co h)
+      go true y ih = inr (f, refl, record { earlier = []; later = fs; split = refl; set = eqb-true _ _ y; none_earlier = refl })
+      go false y (inl h) = inl (h.0, rw y h.1)
+      go false y (inr h) =
+          let r = h.2 in
+          inr (h.0, h.1, record { earlier = f ∷ r.earlier; later = r.later; split = ap (f ∷◌) r.split; set = r.set; none_earlier = rw y r.none_earlier })
 
   -- and the other way
-  none_set : (fs : List ℕ) → AreFlags fs → NoneSet fs co → first_set fs co ≡ 0
-  unfolding every any first_set
+  none_set : (fs : List ℕ) → AreFlags fs → NoneSet fs co → first_set fs co ≡ None
+  unfolding every any
   none_set [] e h = refl
   none_set (f ∷ fs) e h =
-      let b = both_true (is_flag_row (row_of CO f) && ltb 0 f) (every (λ f. is_flag_row (row_of CO f) && ltb 0 f) fs) e in
-      let d = either_false (eqb (byte_of CO f co) byte_Y) (any (λ f. eqb (byte_of CO f co) byte_Y) fs) h in
-      rw (yes_is f (both_true (is_flag_row (row_of CO f)) (ltb 0 f) b.0).0, d.0) (none_set fs b.1 d.1)
+      let b = both_true (is_flag_row (row_of CO f)) (every (λ f. is_flag_row (row_of CO f)) fs) e in
+      let d = either_false (is_set co f) (any (is_set co) fs) h in
+      rw (yes_is f b.0, d.0) (none_set fs b.1 d.1)
 
   one_set : (earlier : List ℕ) (f : ℕ) (later : List ℕ) → AreFlags (earlier ++ (f ∷ later)) → byte_of CO f co ≡ byte_Y → NoneSet earlier co
-      → (first_set (earlier ++ (f ∷ later)) co ≡ f) × (0 < f)
-  unfolding every any first_set
+      → first_set (earlier ++ (f ∷ later)) co ≡ Some f
+  unfolding every any
   one_set [] f later e s n =
-      let b = both_true (is_flag_row (row_of CO f) && ltb 0 f) (every (λ f. is_flag_row (row_of CO f) && ltb 0 f) later) e in
-      let d = both_true (is_flag_row (row_of CO f)) (ltb 0 f) b.0 in
-      (rw (yes_is f d.0, eq-eqb _ _ s), ltb-true 0 f d.1)
+      let b = both_true (is_flag_row (row_of CO f)) (every (λ f. is_flag_row (row_of CO f)) later) e in
+      rw (yes_is f b.0, eq-eqb _ _ s)
   one_set (g ∷ earlier) f later e s n =
-      let b = both_true (is_flag_row (row_of CO g) && ltb 0 g) (every (λ f. is_flag_row (row_of CO f) && ltb 0 f) (earlier ++ (f ∷ later))) e in
-      let d = either_false (eqb (byte_of CO g co) byte_Y) (any (λ f. eqb (byte_of CO f co) byte_Y) earlier) n in
-      let ih = one_set earlier f later b.1 s d.1 in
-      (rw (yes_is g (both_true (is_flag_row (row_of CO g)) (ltb 0 g) b.0).0, d.0) ih.0, ih.1)
+      let b = both_true (is_flag_row (row_of CO g)) (every (λ f. is_flag_row (row_of CO f)) (earlier ++ (f ∷ later))) e in
+      let d = either_false (is_set co g) (any (is_set co) earlier) n in
+      rw (yes_is g b.0, d.0) (one_set earlier f later b.1 s d.1)
 
 unread_flags : AreFlags unread_fields
 unfolding every row_of row_with table_at tables
 unread_flags = refl
 
-first_unread : (co : List ℕ) → ((first_set unread co ≡ 0) × NoneSet unread_fields co) ⊎ (FirstSet unread_fields co (first_set unread co) × (0 < first_set unread co))
-unfolding unread
+first_unread : (co : List ℕ) → SetOrNot co unread_fields
 first_unread co = set_means co unread_fields unread_flags
 
-none_unread_is : (co : List ℕ) → NoneSet unread_fields co → first_set unread co ≡ 0
+none_unread_is : (co : List ℕ) → NoneSet unread_fields co → first_set unread co ≡ None
 unfolding unread
 none_unread_is co = none_set co unread_fields unread_flags
 
-one_unread_is : (co : List ℕ) (f : ℕ) → FirstSet unread_fields co f → (first_set unread co ≡ f) × (0 < f)
+one_unread_is : (co : List ℕ) (f : ℕ) → FirstSet unread_fields co f → first_set unread co ≡ Some f
 unfolding unread
-one_unread_is co f h = rw h.split (one_set co h.earlier f h.later (rw h.split at unread_flags) h.set h.none_earlier)
+one_unread_is co f h =
+    ap (λ fs. first_set fs co) h.split ∙ one_set co h.earlier f h.later (rw h.split at unread_flags) h.set h.none_earlier
 
 -- A LEG of an accepted bundle
 conditions_legs : for_legs CO ≡ true
@@ -167,7 +168,7 @@ module _ (s : List ℕ) (R : List Rec) (g : Good s R) (q : Question) (leg : Leg)
       co = (record_at R i).body
 
       by_unread : PersonsFit co q.persons → persons_fit co q.persons ≡ true → Found
-      unfolding first_fault
+      unfolding first_fault unread
       by_unread p b =
           ⊎_elim
           (λ z. inl (
@@ -184,7 +185,7 @@ module _ (s : List ℕ) (R : List Rec) (g : Good s R) (q : Question) (leg : Leg)
               times_persons = part_at i e;
             },
           ))
-          (λ z. inr (ConditionUnread, first_set unread co, at_record i e ∙ rw (b, ne_eqb (first_set unread co) 0 (λ x. omega (arith, z.1))), condition-unread i u p (first_set unread co) z.0))
+          (λ z. inr (ConditionUnread, z.0, at_record i e ∙ rw (b, z.1), condition-unread i u p z.0 z.2))
           (first_unread co)
 
       by_persons : (b : Bool) → persons_fit co q.persons ≡ b → Found
@@ -209,8 +210,7 @@ module _ (s : List ℕ) (R : List Rec) (g : Good s R) (q : Question) (leg : Leg)
     means_turned n d (persons_outside i u p) =
         at_record i (conditions_at i u) ∙ rw (refuted _ (λ b. p (fit_means (record_at R i).body q.persons b)))
     means_turned n d (condition-unread i u p f z) =
-        let r = one_unread_is (record_at R i).body f z in
-        at_record i (conditions_at i u) ∙ rw (means_fit (record_at R i).body q.persons p, r.0, ne_eqb f 0 (λ x. omega (arith, r.1)))
+        at_record i (conditions_at i u) ∙ rw (means_fit (record_at R i).body q.persons p, one_unread_is (record_at R i).body f z)
 
     pub means_priced : CardsDiffer q → (part : ℕ) → LegFare R q leg part → (first_fault (leg_checks R q k leg) ≡ clean) × (part ≡ part_of R q leg)
     unfolding first_fault

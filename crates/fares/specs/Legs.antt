@@ -1,6 +1,6 @@
 -- One leg of a question (document 01, 'Pricing', numbers 12 to 15, and document 02, R-2): first which records it has, then what these say of it.
 -- Assumes nothing.
-use Rattle.std.specs.Prelude.{ℕ, ◌*◌, Bool, true, false, cond, not, ◌&&◌, eqb, leb, get_or}
+use Rattle.std.specs.Prelude.{ℕ, ◌*◌, Bool, true, false, cond, not, ◌&&◌, eqb, leb, get_or, Option, is_some, unwrap_or, find}
 use mathlib.Core.List.{List, [], ◌∷◌, map, flat_map}
 use Rattle.common.specs.declared.reasons.Reason.TheVariants.{NoConditions, DayOutside, PersonsOutside, ConditionUnread}
 use Rattle.common.specs.Checks.{Check, check}
@@ -61,17 +61,16 @@ persons_fit co persons = leb (number_in CO 28 co) persons && leb persons (most_o
 unfoldable pub unread : List ℕ
 unread = 27 ∷ 31 ∷ 32 ∷ 34 ∷ 35 ∷ []
 
--- the first of some fields that is Y; 0, which is no field, where none is
-unfoldable pub first_set : List ℕ → List ℕ → ℕ
-first_set [] co = 0
-first_set (f ∷ fs) co = cond (is_yes CO f co) f (first_set fs co)
+-- the first of some fields that is Y, if one is
+abbrev pub first_set : List ℕ → List ℕ → Option ℕ
+first_set fs co = find (λ f. is_yes CO f co) fs
 
 -- 14: persons outside fields 28, 29; 15: a condition unread, by its field
 abbrev pub condition_checks : Question → ℕ → List ℕ → List Check
 condition_checks q k co =
-    let f : ℕ = first_set unread co in
+    let f : Option ℕ = first_set unread co in
     check (not (persons_fit co q.persons)) PersonsOutside k 0 ∷
-    check (not (eqb f 0)) ConditionUnread k f ∷
+    check (is_some f) ConditionUnread k (unwrap_or f 0) ∷
     []
 
 abbrev pub is_nothing : Choice → Bool
