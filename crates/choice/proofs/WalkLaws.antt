@@ -20,7 +20,7 @@ use Rattle.bundle.specs.Records.{Rec, no_rec, records_of}
 use Rattle.bundle.specs.Helpers.{places_of, body_at}
 use Rattle.bundle.proofs.Here.{Stands, at_place_lem}
 use Rattle.choice.specs.Choice.{is_of, is_own, is_general, is_either, is_valid, first_with, choice_of}
-use Rattle.choice.specs.Helpers.{at_place, whose_of, by_day, fit_of, noted_at}
+use Rattle.choice.specs.Helpers.{at_place, whose_of, by_day, fit_of, if_at, noted_at}
 use Rattle.choice.specs.declared.Choice.{Choice}
 use Rattle.choice.specs.declared.Choice.TheVariants.{At, NotThatDay, Nothing}
 use Rattle.choice.specs.declared.Role.{Role}
@@ -128,6 +128,25 @@ module _ (w : Wanted) (r : Rec) {f : Role} (e : f ≡ fit_of w r) where
   pub fits_other : (f ≡ Own → ⊥) → f ≡ cond (is_general w r && is_valid w r) General (cond (is_either w r) OffItsDays Other)
   unfolding fit_of whose_of
   fits_other n = e ∙ other_by of_it own_railway all_railways_lem (is_valid w r) (λ h. n (e ∙ h))
+
+-- NOTED, where no place is kept yet: this one's, if it is valid
+module _ (v : Choice) (x : (p : ℕ) → v ≡ At p → ⊥) where
+  pub no_place : (other : Choice) → if_at v other ≡ other
+  no_place other = go v x
+    where
+      go : (v : Choice) → ((p : ℕ) → v ≡ At p → ⊥) → if_at v other ≡ other
+      go (At p) x = absurd (x p refl)
+      go NotThatDay x = refl
+      go Nothing x = refl
+
+  pub now_at : (f : Role) (place : ℕ) → f ≡ General → At place ≡ noted_at v f place
+  now_at f place e = rw (e, no_place (At place))
+
+  pub off_its_days : (f : Role) (place : ℕ) → (f ≡ Other → ⊥) → (f ≡ General → ⊥) → NotThatDay ≡ noted_at v f place
+  off_its_days Other place n g = absurd (n refl)
+  off_its_days General place n g = absurd (g refl)
+  off_its_days Own place n g = rw (no_place NotThatDay)
+  off_its_days OffItsDays place n g = rw (no_place NotThatDay)
 
 -- A SEARCH with one more: it found one before, or this is the first
 next_found : (p : ℕ → Bool) (j : ℕ) (b x : Bool) → ltb (least p j) j ≡ b → p j ≡ x
