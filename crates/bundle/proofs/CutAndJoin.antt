@@ -1,5 +1,6 @@
 -- The records of a bundle and its bytes: cutting and joining undo each other.
 -- Assumes nothing.
+use Rattle.std.specs.Prelude.{Option, Some, None}
 use Prim.Native.Nat.{ℕ, zero, suc, ◌+◌, ◌-◌, ◌≤◌, ◌<◌, suc-le-suc}
 use mathlib.Core.Path.{◌≡◌, refl, sym, ◌∙◌, ap}
 use mathlib.Core.Bool.{Bool, true, false, cond}
@@ -9,29 +10,27 @@ use native.Mathlib.Nat.{le_of_suc-le-suc, not-suc-le-zero}
 use native.Mathlib.Omega.{arith}
 use lib.ListN.{length, take, drop, length-append, length-take, length-drop, take-append-drop}
 use lib.Seq.{take_at, drop_at, drop-drop}
-use lib.Dec.{leb, ltb}
-use borrow.Author.Tests.{lt-leb, lt-ltb, le-ltb, leb-true, leb-false, ltb-true}
+use lib.Dec.{ltb}
+use borrow.Author.Tests.{lt-ltb, le-ltb, ltb-true}
 use Rattle.common.specs.Lists.{same}
-use Rattle.common.proofs.Least.{passes, before, none}
 use Rattle.common.proofs.Tests.{never}
-use Rattle.common.proofs.Lists.{same_is, is_same, not_same}
-use Rattle.layout.specs.Layout.{table_count, table_at, length_of}
-use Rattle.layout.proofs.Tables.{mark_length, marks_differ}
-use Rattle.bundle.specs.Records.{Rec, rec, table_of, step_of, if_whole, between, records_from, rest_from, records_of, rest_of}
+use Rattle.common.proofs.Lists.{is_same, not_same}
+use Rattle.layout.specs.Layout.{table_at, length_of}
+use Rattle.layout.specs.declared.Table.{Table}
+use Rattle.layout.proofs.Tables.{mark_length, marks_differ, none_passes, none_found}
+use Rattle.bundle.specs.Records.{Rec, rec, table_of, step_by, step_of, if_whole, between, records_from, rest_from, records_of, rest_of}
 use Rattle.bundle.specs.Meaning.{joined, record_at, IsRecord}
 use Rattle.bundle.specs.Faults.{NoMark, TooShort, Cut}
 use Rattle.bundle.specs.declared.walk.Step.{Step}
 use Rattle.bundle.specs.declared.walk.Step.TheVariants.{Unknown, Short, Whole}
-use Rattle.bundle.proofs.Steps.{whole_lies, nothing_there}
+use Rattle.bundle.proofs.Steps.{mark_there, whole_lies, nothing_there}
 use Rattle.bundle.proofs.Here.{Over, unknown, short, records_over, rest_over}
 
 -- a whole record is its mark, its body and what follows
-split : (s : List ℕ) (t start next : ℕ) → step_of s ≡ Whole t start next → (table_at t).mark ++ (between start next s ++ drop next s) ≡ s
-unfolding table_of
+split : (s : List ℕ) (t : Table) (start next : ℕ) → step_of s ≡ Whole t start next → (table_at t).mark ++ (between start next s ++ drop next s) ≡ s
 split s t start next e =
     let l = whole_lies s t start next e in
-    let m : take 2 s ≡ (table_at t).mark =
-    rw l.table (same_is _ _ (passes (λ u. same (take 2 s) (table_at u).mark) table_count (rw l.table at l.named))) in
+    let m = mark_there s t l.table in
     let n : 2 + (next - 2) ≡ next = omega (arith, l.long) in
     let b : between start next s ++ drop next s ≡ drop 2 s =
     rw l.behind (rw (← n, ← drop-drop (next - 2) 2 s, n) (take-append-drop (next - 2) (drop 2 s))) in
@@ -87,10 +86,10 @@ unfolding rest_of
 cut_over s = over_from (length s) s (omega arith)
 
 -- and each record is one of a table, of its length.
-body_long : (s : List ℕ) (t start next : ℕ) → step_of s ≡ Whole t start next → IsRecord (rec t (between start next s))
+body_long : (s : List ℕ) (t : Table) (start next : ℕ) → step_of s ≡ Whole t start next → IsRecord (rec t (between start next s))
 body_long s t start next e =
     let l = whole_lies s t start next e in
-    record { named = l.named; long = simp (length-take, length-drop) (omega (arith, l.long, l.inside, l.behind)) }
+    record { long = simp (length-take, length-drop) (omega (arith, l.long, l.inside, l.behind)) }
 
 abbrev AreRecords : List Rec → Type 0
 AreRecords R = (i : ℕ) → i < length R → IsRecord (record_at R i)
@@ -116,9 +115,9 @@ unfolding records_of
 cut_whole s = whole_from (length s) s
 
 -- JOINING: the mark before a record names its table,
-marked : (t : ℕ) (s : List ℕ) → t < table_count → table_of ((table_at t).mark ++ s) ≡ t
+marked : (t : Table) (s : List ℕ) → table_of ((table_at t).mark ++ s) ≡ Some t
 unfolding table_of
-marked t s h = rw (take_at (table_at t).mark s 2 (mark_length t h)) (marks_differ t h)
+marked t s = rw (take_at (table_at t).mark s 2 (mark_length t)) (marks_differ t)
 
 module _ (r : Rec) (w : IsRecord r) (s : List ℕ) where
   abbrev bytes : List ℕ
@@ -126,24 +125,24 @@ module _ (r : Rec) (w : IsRecord r) (s : List ℕ) where
 
   bytes_length : length bytes ≡ 2 + (length_of r.table + length s)
   bytes_length =
-      simp (length-append, mark_length r.table w.named, w.long)
+      simp (length-append, mark_length r.table, w.long)
 
   -- the record stands there whole,
   stands : step_of bytes ≡ Whole r.table 2 (2 + length_of r.table)
   unfolding step_of
   stands =
       let l = bytes_length in
-      rw (marked r.table (r.body ++ s) w.named, lt-leb table_count r.table w.named, le-ltb (length bytes) (2 + length_of r.table) (omega arith))
+      rw (marked r.table (r.body ++ s), le-ltb (length bytes) (2 + length_of r.table) (omega arith))
 
   -- its body is what was put there, and what follows follows
   body_back : between 2 (2 + length_of r.table) bytes ≡ r.body
   body_back =
       let n : 2 + length_of r.table - 2 ≡ length_of r.table = omega arith in
-      rw (n, drop_at (table_at r.table).mark (r.body ++ s) 2 (mark_length r.table w.named)) (take_at r.body s (length_of r.table) w.long)
+      rw (n, drop_at (table_at r.table).mark (r.body ++ s) 2 (mark_length r.table)) (take_at r.body s (length_of r.table) w.long)
 
   rest_back : drop (2 + length_of r.table) bytes ≡ s
   rest_back =
-      rw (← drop-drop (length_of r.table) 2 bytes, drop_at (table_at r.table).mark (r.body ++ s) 2 (mark_length r.table w.named))
+      rw (← drop-drop (length_of r.table) 2 bytes, drop_at (table_at r.table).mark (r.body ++ s) 2 (mark_length r.table))
       (drop_at r.body s (length_of r.table) w.long)
 
 -- and cutting what was joined gives the records back, with what was left, if no record starts that.
@@ -183,44 +182,47 @@ module _ (s : List ℕ) where
   pub no_mark_is : NoMark s → step_of s ≡ Unknown
   unfolding step_of table_of
   no_mark_is n =
-      let p : ℕ → Bool = λ t. same (take 2 s) (table_at t).mark in
-      let none-there : (t : ℕ) → t < table_count → p t ≡ false =
-      λ t l. not_same _ _ (λ e. n t l (drop 2 s) (sym (take-append-drop 2 s) ∙ ap (◌++ drop 2 s) e)) in
-      rw (none p table_count none-there)
+      let none-there : (t : Table) → same (take 2 s) (table_at t).mark ≡ false =
+      λ t. not_same _ _ (λ e. n t (drop 2 s) (sym (take-append-drop 2 s) ∙ ap (◌++ drop 2 s) e)) in
+      rw (none_found (λ t. same (take 2 s) (table_at t).mark) none-there)
 
   pub too_short_is : TooShort s → step_of s ≡ Short
   unfolding step_of
-  too_short_is (t, l, behind, e, h) =
-      let n : length s ≡ 2 + length behind = ap length e ∙ length-append (table_at t).mark behind ∙ ap (◌+ length behind) (mark_length t l) in
-      let m : table_of s ≡ t = ap table_of e ∙ marked t behind l in
-      rw (m, lt-leb table_count t l, lt-ltb (length s) (2 + length_of t) (omega arith))
+  too_short_is (t, behind, e, h) =
+      let n : length s ≡ 2 + length behind = ap length e ∙ length-append (table_at t).mark behind ∙ ap (◌+ length behind) (mark_length t) in
+      let m : table_of s ≡ Some t = ap table_of e ∙ marked t behind in
+      rw (m, lt-ltb (length s) (2 + length_of t) (omega arith))
 
-  by_steps : (a b : Bool) (t m : ℕ) → cond a Unknown (cond b Short (Whole t 2 m)) ≡ Unknown → a ≡ true
-  by_steps true b t m e = refl
-  by_steps false true t m e = let z : ◌≡◌ {A = ℕ} 0 1 = cc in absurd (omega arith)
-  by_steps false false t m e = let z : ◌≡◌ {A = ℕ} 0 1 = cc in absurd (omega arith)
+  by_steps : (o : Option Table) → step_by s o ≡ Unknown → o ≡ None
+  by_steps None e = refl
+  by_steps (Some t) e = go (ltb (length s) (2 + length_of t)) e
+    where
+      go : (b : Bool) → cond b Short (Whole t 2 (2 + length_of t)) ≡ Unknown → Some t ≡ None
+      go true q = let z : ◌≡◌ {A = ℕ} 0 1 = cc in absurd (omega arith)
+      go false q = let z : ◌≡◌ {A = ℕ} 0 1 = cc in absurd (omega arith)
 
-  by_shorts : (a b : Bool) (t m : ℕ) → cond a Unknown (cond b Short (Whole t 2 m)) ≡ Short → (a ≡ false) × (b ≡ true)
-  by_shorts true b t m e = let z : ◌≡◌ {A = ℕ} 0 1 = cc in absurd (omega arith)
-  by_shorts false true t m e = (refl, refl)
-  by_shorts false false t m e = let z : ◌≡◌ {A = ℕ} 0 1 = cc in absurd (omega arith)
+  by_shorts : (o : Option Table) → step_by s o ≡ Short → (t : Table) × (o ≡ Some t) × (ltb (length s) (2 + length_of t) ≡ true)
+  by_shorts None e = let z : ◌≡◌ {A = ℕ} 0 1 = cc in absurd (omega arith)
+  by_shorts (Some t) e = (t, refl, go (ltb (length s) (2 + length_of t)) e)
+    where
+      go : (b : Bool) → cond b Short (Whole t 2 (2 + length_of t)) ≡ Short → b ≡ true
+      go true q = refl
+      go false q = let z : ◌≡◌ {A = ℕ} 0 1 = cc in absurd (omega arith)
 
   pub unknown_means : step_of s ≡ Unknown → NoMark s
   unfolding step_of table_of
-  unknown_means e t l behind q =
-      let a = leb-true table_count (table_of s) (by_steps (leb table_count (table_of s)) (ltb (length s) (2 + length_of (table_of s))) (table_of s) (2 + length_of (table_of s)) e) in
-      never (is_same (take 2 s) (table_at t).mark (ap (take 2) q ∙ take_at (table_at t).mark behind 2 (mark_length t l)))
-      (before (λ u. same (take 2 s) (table_at u).mark) table_count t (omega arith))
+  unknown_means e t behind q =
+      never (is_same (take 2 s) (table_at t).mark (ap (take 2) q ∙ take_at (table_at t).mark behind 2 (mark_length t)))
+      (none_passes (λ u. same (take 2 s) (table_at u).mark) (by_steps (table_of s) e) t)
 
   pub short_means : step_of s ≡ Short → TooShort s
-  unfolding step_of table_of
+  unfolding step_of
   short_means e =
-      let b = by_shorts (leb table_count (table_of s)) (ltb (length s) (2 + length_of (table_of s))) (table_of s) (2 + length_of (table_of s)) e in
-      let t = table_of s in
-      let l = leb-false table_count t b.0 in
-      let m = same_is (take 2 s) (table_at t).mark (passes (λ u. same (take 2 s) (table_at u).mark) table_count l) in
-      let n = ltb-true (length s) (2 + length_of t) b.1 in
-      (t, l, drop 2 s, sym (take-append-drop 2 s) ∙ ap (◌++ drop 2 s) m, rw length-drop (omega (arith, length-take 2 s, ap length m, mark_length t l)))
+      let b = by_shorts (table_of s) e in
+      let t = b.0 in
+      let m = mark_there s t b.1 in
+      let n = ltb-true (length s) (2 + length_of t) b.2 in
+      (t, drop 2 s, sym (take-append-drop 2 s) ∙ ap (◌++ drop 2 s) m, rw length-drop (omega (arith, length-take 2 s, ap length m, mark_length t)))
 
   over_means : Over s → NoMark s ⊎ TooShort s
   over_means (unknown e) = inl (unknown_means e)

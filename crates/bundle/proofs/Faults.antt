@@ -21,7 +21,7 @@ use Rattle.common.proofs.Tests.{never, both_true, refuted}
 use Rattle.common.proofs.Least.{passes, before, hit, none}
 use Rattle.common.proofs.Lists.{same_is}
 use Rattle.common.proofs.Checks.{one_clean, append_clean, clean_append, clean_each, one_fault, append_fault, last_fault, fault_append, each_clean, each_fault, fault_each}
-use Rattle.layout.specs.Layout.{table_count, table_at}
+use Rattle.layout.specs.Layout.{table_at}
 use Rattle.layout.specs.Rules.{keeps_row, first_broken, broken_field, keeps_rules}
 use Rattle.layout.specs.declared.rows.Row.{Row}
 use Rattle.layout.proofs.Tables.{unbroken_keeps}
@@ -96,23 +96,23 @@ module _ (R : List Rec) (i : ℕ) where
       let c = one_clean _ LinkMissing i _ [] b.1 in
       record { of_one_transferor = same_transferor R r a.0; apart = no_clash R r i b.0; linked = links_there R r c.0 }
 
-  fits_clean : r.table < table_count → Fits R i → first_fault (record_checks R i r) ≡ clean
+  fits_clean : Fits R i → first_fault (record_checks R i r) ≡ clean
   unfolding first_fault
-  fits_clean h f = rw (transferor_same R r f.of_one_transferor, clash_none R r h i f.apart, there_links R r f.linked)
+  fits_clean f = rw (transferor_same R r f.of_one_transferor, clash_none R r i f.apart, there_links R r f.linked)
 
-  first_clash : r.table < table_count → ltb (earlier_of R i r) i ≡ true → let j = earlier_of R i r in
+  first_clash : ltb (earlier_of R i r) i ≡ true → let j = earlier_of R i r in
       (j < i) × Clash r (record_at R j) × ((m : ℕ) → m < j → Clash r (record_at R m) → ⊥)
   unfolding earlier_of
-  first_clash h e =
+  first_clash e =
       let p : ℕ → Bool = λ j. clash r (record_at R j) in
       let l = ltb-true (least p i) i e in
-      (l, clash_means r _ h (passes p i l), λ m b k. never (means_clash r (record_at R m) k) (before p i m b))
+      (l, clash_means r _ (passes p i l), λ m b k. never (means_clash r (record_at R m) k) (before p i m b))
 
-  clash_first : r.table < table_count → (j : ℕ) → j < i → Clash r (record_at R j) → ((m : ℕ) → m < j → Clash r (record_at R m) → ⊥) → earlier_of R i r ≡ j
+  clash_first : (j : ℕ) → j < i → Clash r (record_at R j) → ((m : ℕ) → m < j → Clash r (record_at R m) → ⊥) → earlier_of R i r ≡ j
   unfolding earlier_of
-  clash_first h j l c n =
+  clash_first j l c n =
       let p : ℕ → Bool = λ k. clash r (record_at R k) in
-      hit p j i (none p j (λ m b. refuted (clash r (record_at R m)) (λ e. n m b (clash_means r (record_at R m) h e)))) (means_clash r (record_at R j) c) l
+      hit p j i (none p j (λ m b. refuted (clash r (record_at R m)) (λ e. n m b (clash_means r (record_at R m) e)))) (means_clash r (record_at R j) c) l
 
   another : (OfOneTransferor R i → ⊥) → other_transferor R r ≡ true
   unfolding other_transferor
@@ -195,7 +195,7 @@ module _ (s : List ℕ) where
         ⊎_elim
         (λ a. rw (← a.1) (other_transferor_fault i k (λ t. never a.0 (transferor_same R r t))))
         (λ a. let t = same_transferor R r a.0 in
-        ⊎_elim (λ b. let c = first_clash R i ((cut_means s).whole i h.inside).named b.0 in rw (← b.1) (repeats_a_key i (earlier_of R i r) k t c.0 c.1 c.2))
+        ⊎_elim (λ b. let c = first_clash R i b.0 in rw (← b.1) (repeats_a_key i (earlier_of R i r) k t c.0 c.1 c.2))
         (λ b. let c = last_fault _ LinkMissing i _ b.1 in rw (← c.1) (lacks_a_link i _ k t (no_clash R r i b.0) (link_missing R r c.0)))
         (one_fault _ KeyRepeated i _ _ a.1))
         (one_fault _ OtherTransferor i 0 _ f)
@@ -243,7 +243,7 @@ module _ (s : List ℕ) where
       ∙ (fault_append (first_pass s) (second_pass R)
       ∙ rw (first_clean i k)
       (fault_each (record_checks R) no_rec 0 R why
-      (record { at = i; inside = k.inside; fails = rw zero-add e; earlier_clean = λ j m. rw zero-add (fits_clean R j ((cut_means s).whole j (omega (arith, k.inside))).named (k.earlier j m)) })))
+      (record { at = i; inside = k.inside; fails = rw zero-add e; earlier_clean = λ j m. rw zero-add (fits_clean R j (k.earlier j m)) })))
 
   pub means_fault : (n : Reason) (p d : ℕ) → Fault s R rest n p d → first_fault (checks s) ≡ fault (refuse n p d)
   unfolding checks first_pass first_fault
@@ -263,10 +263,10 @@ module _ (s : List ℕ) where
       })))
   means_fault n p d (other_transferor_fault i k t) = in_second i k (refuse OtherTransferor i 0) (rw (another R i t))
   means_fault n p d (repeats_a_key i j k t l c m) =
-      in_second i k (refuse KeyRepeated i j) (rw (transferor_same R (record_at R i) t, clash_first R i ((cut_means s).whole i k.inside).named j l c m, lt-ltb j i l))
+      in_second i k (refuse KeyRepeated i j) (rw (transferor_same R (record_at R i) t, clash_first R i j l c m, lt-ltb j i l))
   means_fault n p d (lacks_a_link i f k t c m) =
       let e = missing_link_lem R (record_at R i) f m in
-      in_second i k (refuse LinkMissing i f) (rw (transferor_same R (record_at R i) t, clash_none R (record_at R i) ((cut_means s).whole i k.inside).named i c, e.0, e.1))
+      in_second i k (refuse LinkMissing i f) (rw (transferor_same R (record_at R i) t, clash_none R (record_at R i) i c, e.0, e.1))
 
 -- A BUNDLE IS REFUSED with a number, a place and a detail only if it has that fault, and if it has.
 pub refused_fault : (s : List ℕ) (why : Refusal) → verdict_of s ≡ Err why → Fault s (records_of s) (rest_of s) why.reason why.place why.detail

@@ -10,6 +10,7 @@ use native.Mathlib.Numerals.{add-one}
 use lib.ListN.{length, get_or, drop, length-drop, get_or-eq_default}
 use lib.Seq.{drop-drop, get_or-drop}
 use Rattle.common.proofs.Tests.{side}
+use Rattle.layout.specs.declared.Table.{Table}
 use Rattle.bundle.specs.Records.{rec, no_rec, step_of, if_whole, between, records_from, rest_from, records_of, rest_of}
 use Rattle.bundle.specs.Helpers.{moved, step_at, places_from, places_of, body_at}
 use Rattle.bundle.specs.declared.walk.Step.{Step}
@@ -41,18 +42,18 @@ here_start s =
       places = refl;
     }
 
-records_whole : (k : ℕ) (s : List ℕ) {t start next : ℕ} → 0 < k → step_of s ≡ Whole t start next
+records_whole : (k : ℕ) (s : List ℕ) {t : Table} {start next : ℕ} → 0 < k → step_of s ≡ Whole t start next
     → records_from k s ≡ rec t (between start next s) ∷ records_from (pred k) (drop next s)
 unfolding records_from
 records_whole zero s h e = absurd (omega arith)
 records_whole (suc k) s h e = rw e
 
-rest_whole : (k : ℕ) (s : List ℕ) {t start next : ℕ} → 0 < k → step_of s ≡ Whole t start next → rest_from k s ≡ rest_from (pred k) (drop next s)
+rest_whole : (k : ℕ) (s : List ℕ) {t : Table} {start next : ℕ} → 0 < k → step_of s ≡ Whole t start next → rest_from k s ≡ rest_from (pred k) (drop next s)
 unfolding rest_from
 rest_whole zero s h e = absurd (omega arith)
 rest_whole (suc k) s h e = rw e
 
-places_whole : (k p : ℕ) (s : List ℕ) {t start next : ℕ} → 0 < k → step_of s ≡ Whole t start next
+places_whole : (k p : ℕ) (s : List ℕ) {t : Table} {start next : ℕ} → 0 < k → step_of s ≡ Whole t start next
     → places_from k p s ≡ p ∷ places_from (pred k) (p + next) (drop next s)
 unfolding places_from
 places_whole zero p s h e = absurd (omega arith)
@@ -93,7 +94,7 @@ rest_over (suc k) s (unknown e) = rw e
 rest_over (suc k) s (short e) = rw e
 
 -- WHAT A STEP SAYS of the place where it was made: a whole record stands there, and where its body starts and the next record does;
-pub record Stands (s : List ℕ) (p j t start next : ℕ) : Type 0 where
+pub record Stands (s : List ℕ) (p j : ℕ) (t : Table) (start next : ℕ) : Type 0 where
   pub starts : p < start
   pub ends : start ≤ next
   pub inside : next ≤ length s
@@ -105,7 +106,7 @@ pub record Stands (s : List ℕ) (p j t start next : ℕ) : Type 0 where
   pub then : Here s next (j + 1)
 
 module _ (s : List ℕ) (p j : ℕ) (h : Here s p j) where
-  module _ (t start next : ℕ) (e : step_of (drop p s) ≡ Whole t start next) where
+  module _ (t : Table) (start next : ℕ) (e : step_of (drop p s) ≡ Whole t start next) where
     lies : Lies (drop p s) t start next
     lies = whole_lies (drop p s) t start next e
 
@@ -168,7 +169,7 @@ module _ (s : List ℕ) (p j : ℕ) (h : Here s p j) where
     over_count = omega (arith, length-drop j (records_of s), ap length over_nil, h.among)
 
   -- the same of the step that was made
-  moved_whole : (v : Step) (t start next : ℕ) → step_of (drop p s) ≡ v → moved p v ≡ Whole t start next → Stands s p j t start next
+  moved_whole : (v : Step) (t : Table) (start next : ℕ) → step_of (drop p s) ≡ v → moved p v ≡ Whole t start next → Stands s p j t start next
   moved_whole Unknown t start next q e = let z : ◌≡◌ {A = ℕ} 0 1 = cc in absurd (omega arith)
   moved_whole Short t start next q e = let z : ◌≡◌ {A = ℕ} 0 1 = cc in absurd (omega arith)
   moved_whole (Whole u a b) t start next q e =
@@ -177,7 +178,7 @@ module _ (s : List ℕ) (p j : ℕ) (h : Here s p j) where
       let z : p + b ≡ next = cc in
       rw (← x, ← y, ← z) (whole_stands u a b q)
 
-  pub stands : {v : Step} {t start next : ℕ} → v ≡ step_at s p → v ≡ Whole t start next → Stands s p j t start next
+  pub stands : {v : Step} {t : Table} {start next : ℕ} → v ≡ step_at s p → v ≡ Whole t start next → Stands s p j t start next
   unfolding step_at
   stands {v} {t} {start} {next} q e = moved_whole (step_of (drop p s)) t start next refl (sym q ∙ e)
 
@@ -200,13 +201,13 @@ module _ (s : List ℕ) (p : ℕ) where
   unfolding step_at
   short_there q e = moved_short (step_of (drop p s)) (sym q ∙ e)
 
-  pub over_there : (v : Step) → ((t start next : ℕ) → v ≡ Whole t start next → ⊥) → v ≡ step_at s p → Over (drop p s)
+  pub over_there : (v : Step) → ((t : Table) (start next : ℕ) → v ≡ Whole t start next → ⊥) → v ≡ step_at s p → Over (drop p s)
   over_there Unknown x q = unknown (unknown_there q refl)
   over_there Short x q = short (short_there q refl)
   over_there (Whole t start next) x q = absurd (x t start next refl)
 
   -- a record lies in the bundle wherever the step was made
-  moved_lies : (v : Step) (t start next : ℕ) → step_of (drop p s) ≡ v → moved p v ≡ Whole t start next → (start ≤ next) × (next ≤ length s)
+  moved_lies : (v : Step) (t : Table) (start next : ℕ) → step_of (drop p s) ≡ v → moved p v ≡ Whole t start next → (start ≤ next) × (next ≤ length s)
   moved_lies Unknown t start next q e = let z : ◌≡◌ {A = ℕ} 0 1 = cc in absurd (omega arith)
   moved_lies Short t start next q e = let z : ◌≡◌ {A = ℕ} 0 1 = cc in absurd (omega arith)
   moved_lies (Whole u a b) t start next q e =
@@ -216,23 +217,23 @@ module _ (s : List ℕ) (p : ℕ) where
       let d = length-drop p s in
       rw (← y, ← z) (omega (arith, l.behind, l.long), omega (arith, l.behind, l.long, l.inside))
 
-  pub step_lies : {v : Step} {t start next : ℕ} → v ≡ step_at s p → v ≡ Whole t start next → (start ≤ next) × (next ≤ length s)
+  pub step_lies : {v : Step} {t : Table} {start next : ℕ} → v ≡ step_at s p → v ≡ Whole t start next → (start ≤ next) × (next ≤ length s)
   unfolding step_at
   step_lies {v} {t} {start} {next} q e = moved_lies (step_of (drop p s)) t start next refl (sym q ∙ e)
 
   -- what is read off a whole record at a place, or else told
-  module _ {A : Type 0} (none : A) (f : ℕ → ℕ → ℕ → A) where
+  module _ {A : Type 0} (none : A) (f : Table → ℕ → ℕ → A) where
     pub over_told : Over (drop p s) → none ≡ if_whole (step_at s p) none f
     unfolding step_at
     over_told (unknown e) = rw e
     over_told (short e) = rw e
 
-    pub whole_told : {v : Step} {t start next : ℕ} → v ≡ step_at s p → v ≡ Whole t start next → f t start next ≡ if_whole (step_at s p) none f
+    pub whole_told : {v : Step} {t : Table} {start next : ℕ} → v ≡ step_at s p → v ≡ Whole t start next → f t start next ≡ if_whole (step_at s p) none f
     whole_told q e = rw (sym q ∙ e)
 
 -- EVERY RECORD HAS ITS PLACE
 module _ (s : List ℕ) where
-  found_at : (p j : ℕ) → Here s p j → j < length (records_of s) → (v : Step) → step_of (drop p s) ≡ v → (t : ℕ) × (start : ℕ) × (next : ℕ) × Stands s p j t start next
+  found_at : (p j : ℕ) → Here s p j → j < length (records_of s) → (v : Step) → step_of (drop p s) ≡ v → (t : Table) × (start : ℕ) × (next : ℕ) × Stands s p j t start next
   found_at p j h l Unknown e = absurd (omega (arith, over_count s p j h (unknown e)))
   found_at p j h l Short e = absurd (omega (arith, over_count s p j h (short e)))
   found_at p j h l (Whole t start next) e = (t, p + start, p + next, whole_stands s p j h t start next e)

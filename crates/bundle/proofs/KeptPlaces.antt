@@ -6,15 +6,14 @@ use mathlib.Core.Bool.{Bool, true, false}
 use mathlib.Core.Logic.{⊎_elim}
 use mathlib.Core.List.{List}
 use native.Mathlib.Omega.{arith}
-use lib.Dec.{eqb}
 use lib.ListN.{length, get_or}
-use borrow.Author.Tests.{eqb-true}
+use Rattle.layout.specs.Layout.{is_table}
 use Rattle.common.specs.Least.{least}
 use Rattle.common.proofs.Least.{none as none_is}
 use Rattle.common.proofs.Tests.{both_true, never, side, refuted}
 use Rattle.layout.specs.Fields.{same_key}
 use Rattle.layout.specs.Helpers.{key_number}
-use Rattle.layout.proofs.Tables.{same_number_lem}
+use Rattle.layout.proofs.Tables.{same_number_lem, table_is}
 use Rattle.seen.specs.Seen.{slot_behind, slot_of, has_tag, value_at, IsPut, Holds}
 use Rattle.seen.proofs.Laws.{next_try, held_before_lem, put_holds}
 use Rattle.bundle.specs.Records.{Rec, rec, no_rec, if_whole, between, records_of}
@@ -29,9 +28,9 @@ use Rattle.bundle.proofs.Here.{Here, unknown, short, stands, unknown_there, shor
 clash_number : (r q : Rec) → clash r q ≡ true → number_of r ≡ number_of q
 unfolding clash
 clash_number r q e =
-    let c = both_true (eqb r.table q.table) _ e in
+    let c = both_true (is_table r.table q.table) _ e in
     let k = both_true (same_key r.table r.body q.body) _ c.1 in
-    same_number_lem r.table r.body q.body k.0 ∙ ap (λ t. key_number t q.body) (eqb-true r.table q.table c.0)
+    same_number_lem r.table r.body q.body k.0 ∙ ap (λ t. key_number t q.body) (table_is r.table q.table c.0)
 
 -- AT ITS PLACE a record is found,
 clash_there : (s : List ℕ) (r : Rec) (j : ℕ) → j < length (records_of s) → clashes_at s r (get_or (places_of s) j 0) ≡ clash r (get_or (records_of s) j no_rec)

@@ -16,10 +16,11 @@ use Rattle.common.proofs.Least.{passes, before, hit, none, finds_none, none_find
 use Rattle.common.proofs.Tests.{never, both_true, refuted}
 use Rattle.common.proofs.Lists.{same_is, is_same, any_at, at_any}
 use Rattle.layout.specs.Bytes.{byte_Y}
-use Rattle.layout.specs.Layout.{CO, RE, AR, ME, table_at, tables}
+use Rattle.layout.specs.Layout.{CO, RE, AR, ME, is_table, table_at}
 use Rattle.layout.specs.Company.{is_all_railways}
 use Rattle.layout.specs.Fields.{row_with, row_of, bytes_of, byte_of, is_yes, of_offers, offer_of, railway_of, code_of}
-use Rattle.layout.proofs.Tables.{offer_stands, railway_stands}
+use Rattle.layout.specs.declared.Table.{Table}
+use Rattle.layout.proofs.Tables.{table_is, is_table_lem, not_both, offer_stands, railway_stands}
 use Rattle.bundle.specs.Records.{Rec, no_rec}
 use Rattle.bundle.specs.Links.{link, links, link_rows, no_link, is_asked, railway_serves, joins, serves, lacks, missing_link}
 use Rattle.bundle.specs.Meaning.{record_at, There, OfCode, OfOffer, all_railways, Serves, Linked}
@@ -81,41 +82,41 @@ module _ {R : List Rec} {r : Rec} {Asks : Type 0} {Such : Rec → Type 0} (k : �
 
 -- THE FIVE ROWS
 module _ (R : List Rec) (r : Rec) where
-  asked_table : (t w : ℕ) (j : Join) (d : ℕ) → is_asked (link t None w j d) r ≡ eqb t r.table
+  asked_table : (t w : Table) (j : Join) (d : ℕ) → is_asked (link t None w j d) r ≡ is_table t r.table
   unfolding is_asked
-  asked_table t w j d = and-true (eqb t r.table)
+  asked_table t w j d = and-true (is_table t r.table)
 
   of_code : Says R r (get_or link_rows 0 no_link) (r.table ≡ AR) (OfCode r)
-  unfolding link_rows serves joins code_of table_at tables
+  unfolding link_rows serves joins code_of table_at
   of_code =
       record {
-        asks = λ e. sym (eqb-true AR r.table (sym (asked_table AR _ _ _) ∙ e));
-        asked = λ a. asked_table AR _ _ _ ∙ eq-eqb AR r.table (sym a);
+        asks = λ e. sym (table_is AR r.table (sym (asked_table AR _ _ _) ∙ e));
+        asked = λ a. asked_table AR _ _ _ ∙ is_table_lem AR r.table (sym a);
         such = λ a x e.
-            let b = both_true (eqb x.table RE) _ e in
-            let t = eqb-true x.table RE b.0 in
+            let b = both_true (is_table x.table RE) _ e in
+            let t = table_is x.table RE b.0 in
             (t, sym (same_is _ _ (rw (a, t) at b.1)));
         served = λ a x h. rw (h.0, a) (is_same _ _ (sym h.1));
       }
 
-  of_offer : (t d k : ℕ) → get_or link_rows k no_link ≡ link t None CO ByOffer d → of_offers t ≡ true → Says R r (get_or link_rows k no_link) (r.table ≡ t) (OfOffer t r)
+  of_offer : (t : Table) (d k : ℕ) → get_or link_rows k no_link ≡ link t None CO ByOffer d → of_offers t ≡ true → Says R r (get_or link_rows k no_link) (r.table ≡ t) (OfOffer t r)
   unfolding serves joins offer_of
   of_offer t d k z o =
       rw z (record {
-        asks = λ e. sym (eqb-true t r.table (sym (asked_table t _ _ _) ∙ e));
-        asked = λ a. asked_table t _ _ _ ∙ eq-eqb t r.table (sym a);
+        asks = λ e. sym (table_is t r.table (sym (asked_table t _ _ _) ∙ e));
+        asked = λ a. asked_table t _ _ _ ∙ is_table_lem t r.table (sym a);
         such = λ a x e.
-            let b = both_true (eqb x.table CO) _ e in
-            (eqb-true x.table CO b.0, sym (same_is _ _ b.1) ∙ sym (offer_stands t o r.body));
-        served = λ a x h. rw (eq-eqb x.table CO h.0) (is_same _ _ (sym (offer_stands t o r.body) ∙ sym h.1));
+            let b = both_true (is_table x.table CO) _ e in
+            (table_is x.table CO b.0, sym (same_is _ _ b.1) ∙ sym (offer_stands t o r.body));
+        served = λ a x h. rw (is_table_lem x.table CO h.0) (is_same _ _ (sym (offer_stands t o r.body) ∙ sym h.1));
       })
 
-  flag_is : (f : ℕ) → is_yes CO f r.body ≡ eqb (byte_of CO f r.body) byte_Y → (w : ℕ) (j : Join) (d : ℕ)
-      → is_asked (link CO (Some f) w j d) r ≡ (eqb CO r.table && eqb (byte_of CO f r.body) byte_Y)
+  flag_is : (f : ℕ) → is_yes CO f r.body ≡ eqb (byte_of CO f r.body) byte_Y → (w : Table) (j : Join) (d : ℕ)
+      → is_asked (link CO (Some f) w j d) r ≡ (is_table CO r.table && eqb (byte_of CO f r.body) byte_Y)
   unfolding is_asked
   flag_is f y w j d = rw y
 
-  serving : (t : ℕ) → of_offers t ≡ true → (x : Rec) → railway_serves r.body x.body ≡ true
+  serving : (t : Table) → of_offers t ≡ true → (x : Rec) → railway_serves r.body x.body ≡ true
       → (bytes_of CO 3 r.body ≡ all_railways) ⊎ ((bytes_of t 3 x.body ≡ bytes_of CO 3 r.body) ⊎ (bytes_of t 3 x.body ≡ all_railways))
   unfolding railway_serves is_all_railways railway_of
   serving t o x e =
@@ -123,7 +124,7 @@ module _ (R : List Rec) (r : Rec) where
       (λ h. inr (⊎_elim (λ a. inl (railway_stands t o x.body ∙ same_is _ _ a)) (λ a. inr (railway_stands t o x.body ∙ same_is _ _ a)) (either_true _ _ h)))
       (either_true _ _ e)
 
-  served_by : (t : ℕ) → of_offers t ≡ true → (x : Rec)
+  served_by : (t : Table) → of_offers t ≡ true → (x : Rec)
       → (bytes_of CO 3 r.body ≡ all_railways) ⊎ ((bytes_of t 3 x.body ≡ bytes_of CO 3 r.body) ⊎ (bytes_of t 3 x.body ≡ all_railways))
       → railway_serves r.body x.body ≡ true
   unfolding railway_serves is_all_railways railway_of
@@ -132,36 +133,36 @@ module _ (R : List Rec) (r : Rec) where
       (⊎_elim (λ a. inl (is_same _ _ a))
       (λ b. inr (true_either _ _ (⊎_elim (λ a. inl (is_same _ _ (sym (railway_stands t o x.body) ∙ a))) (λ a. inr (is_same _ _ (sym (railway_stands t o x.body) ∙ a))) b))) h)
 
-  of_flag : (f t d k : ℕ) → get_or link_rows k no_link ≡ link CO (Some f) t ByOfferAndRailway d → of_offers t ≡ true
+  of_flag : (f : ℕ) (t : Table) (d k : ℕ) → get_or link_rows k no_link ≡ link CO (Some f) t ByOfferAndRailway d → of_offers t ≡ true
       → is_yes CO f r.body ≡ eqb (byte_of CO f r.body) byte_Y
       → Says R r (get_or link_rows k no_link) ((r.table ≡ CO) × (byte_of CO f r.body ≡ byte_Y)) (Serves t r)
   unfolding serves joins offer_of
   of_flag f t d k z o y =
       rw z (record {
-        asks = λ e. let b = both_true (eqb CO r.table) _ (sym (flag_is f y t ByOfferAndRailway d) ∙ e) in (sym (eqb-true CO r.table b.0), eqb-true _ _ b.1);
-        asked = λ a. flag_is f y t ByOfferAndRailway d ∙ rw (eq-eqb CO r.table (sym a.0), eq-eqb _ _ a.1);
+        asks = λ e. let b = both_true (is_table CO r.table) _ (sym (flag_is f y t ByOfferAndRailway d) ∙ e) in (sym (table_is CO r.table b.0), eqb-true _ _ b.1);
+        asked = λ a. flag_is f y t ByOfferAndRailway d ∙ rw (is_table_lem CO r.table (sym a.0), eq-eqb _ _ a.1);
         such = λ a x e.
-            let b = both_true (eqb x.table t) _ e in
+            let b = both_true (is_table x.table t) _ e in
             let c = both_true (same (offer_of r.body) (offer_of x.body)) (railway_serves r.body x.body) b.1 in
-            (eqb-true x.table t b.0, offer_stands t o x.body ∙ sym (same_is _ _ c.0), serving t o x c.1);
+            (table_is x.table t b.0, offer_stands t o x.body ∙ sym (same_is _ _ c.0), serving t o x c.1);
         served = λ a x h.
-            rw (eq-eqb x.table t h.0, is_same (offer_of r.body) (offer_of x.body) (sym h.1 ∙ offer_stands t o x.body), served_by t o x h.2);
+            rw (is_table_lem x.table t h.0, is_same (offer_of r.body) (offer_of x.body) (sym h.1 ∙ offer_stands t o x.body), served_by t o x h.2);
       })
 
   ar_offer : Says R r (get_or link_rows 1 no_link) (r.table ≡ AR) (OfOffer AR r)
-  unfolding link_rows of_offers any table_at tables
+  unfolding link_rows of_offers any table_at
   ar_offer = of_offer AR 2 1 refl refl
 
   me_offer : Says R r (get_or link_rows 2 no_link) (r.table ≡ ME) (OfOffer ME r)
-  unfolding link_rows of_offers any table_at tables
+  unfolding link_rows of_offers any table_at
   me_offer = of_offer ME 2 2 refl refl
 
   flag_33 : Says R r (get_or link_rows 3 no_link) ((r.table ≡ CO) × (byte_of CO 33 r.body ≡ byte_Y)) (Serves AR r)
-  unfolding link_rows is_yes of_offers any row_of row_with table_at tables
+  unfolding link_rows is_yes of_offers any row_of row_with table_at
   flag_33 = of_flag 33 AR 3 3 refl refl refl
 
   flag_37 : Says R r (get_or link_rows 4 no_link) ((r.table ≡ CO) × (byte_of CO 37 r.body ≡ byte_Y)) (Serves ME r)
-  unfolding link_rows is_yes of_offers any row_of row_with table_at tables
+  unfolding link_rows is_yes of_offers any row_of row_with table_at
   flag_37 = of_flag 37 ME 4 4 refl refl refl
 
   -- EVERY LINK is there exactly if no row lacks,
@@ -228,21 +229,21 @@ module _ (R : List Rec) (r : Rec) where
   missing_link_lem d (no_co_of_me a n) = first_lack 2 (omega arith) (is_lack 2 me_offer a n) go
     where
       go : (j : ℕ) → j < 2 → lacks R r j ≡ false
-      go zero l = is_kept 0 of_code (λ b. absurd (omega (arith, a, b)))
-      go (suc zero) l = is_kept 1 ar_offer (λ b. absurd (omega (arith, a, b)))
+      go zero l = is_kept 0 of_code (λ b. not_both refl a b)
+      go (suc zero) l = is_kept 1 ar_offer (λ b. not_both refl a b)
       go (suc (suc j)) l = absurd (omega arith)
   missing_link_lem d (no_ar a y n) = first_lack 3 (omega arith) (is_lack 3 flag_33 (a, y) n) (others a)
     where
       others : r.table ≡ CO → (j : ℕ) → j < 3 → lacks R r j ≡ false
-      others a zero l = is_kept 0 of_code (λ b. absurd (omega (arith, a, b)))
-      others a (suc zero) l = is_kept 1 ar_offer (λ b. absurd (omega (arith, a, b)))
-      others a (suc (suc zero)) l = is_kept 2 me_offer (λ b. absurd (omega (arith, a, b)))
+      others a zero l = is_kept 0 of_code (λ b. not_both refl a b)
+      others a (suc zero) l = is_kept 1 ar_offer (λ b. not_both refl a b)
+      others a (suc (suc zero)) l = is_kept 2 me_offer (λ b. not_both refl a b)
       others a (suc (suc (suc j))) l = absurd (omega arith)
   missing_link_lem d (no_me a c y n) = first_lack 4 (omega arith) (is_lack 4 flag_37 (a, y) n) go
     where
       go : (j : ℕ) → j < 4 → lacks R r j ≡ false
-      go zero l = is_kept 0 of_code (λ b. absurd (omega (arith, a, b)))
-      go (suc zero) l = is_kept 1 ar_offer (λ b. absurd (omega (arith, a, b)))
-      go (suc (suc zero)) l = is_kept 2 me_offer (λ b. absurd (omega (arith, a, b)))
+      go zero l = is_kept 0 of_code (λ b. not_both refl a b)
+      go (suc zero) l = is_kept 1 ar_offer (λ b. not_both refl a b)
+      go (suc (suc zero)) l = is_kept 2 me_offer (λ b. not_both refl a b)
       go (suc (suc (suc zero))) l = is_kept 3 flag_33 (λ b. c b.1)
       go (suc (suc (suc (suc j)))) l = absurd (omega arith)

@@ -18,7 +18,6 @@ use Rattle.common.proofs.Tests.{never, refuted}
 use Rattle.common.proofs.Least.{finds_none, none_finds}
 use Rattle.common.proofs.Lists.{same_is, is_same}
 use Rattle.common.proofs.Checks.{one_clean, clean_one, append_clean, clean_append, each_clean, clean_each}
-use Rattle.layout.specs.Layout.{table_count}
 use Rattle.layout.specs.Fields.{transferor_of}
 use Rattle.layout.specs.Rules.{broken_field}
 use Rattle.layout.proofs.Tables.{unbroken_keeps}
@@ -51,9 +50,9 @@ module _ (R : List Rec) (r : Rec) where
   unfolding earlier_of
   no_clash i e j l k = never (means_clash r (record_at R j) k) (finds_none (λ k. clash r (record_at R k)) i e j l)
 
-  pub clash_none : r.table < table_count → (i : ℕ) → ((j : ℕ) → j < i → Clash r (record_at R j) → ⊥) → ltb (earlier_of R i r) i ≡ false
+  pub clash_none : (i : ℕ) → ((j : ℕ) → j < i → Clash r (record_at R j) → ⊥) → ltb (earlier_of R i r) i ≡ false
   unfolding earlier_of
-  clash_none h i f = none_finds (λ k. clash r (record_at R k)) i (λ j l. refuted (clash r (record_at R j)) (λ e. f j l (clash_means r (record_at R j) h e)))
+  clash_none i f = none_finds (λ k. clash r (record_at R k)) i (λ j l. refuted (clash r (record_at R j)) (λ e. f j l (clash_means r (record_at R j) e)))
 
 -- THE END: nothing is left after the records
 pub nothing_left : (n : ℕ) (rest : List ℕ) → Over rest → first_fault (end_checks n rest) ≡ clean → rest ≡ []
@@ -124,7 +123,7 @@ module _ (s : List ℕ) (R : List Rec) (g : Good s R) where
   unfolding first_fault
   record_clean i l =
       let r = record_at R i in
-      rw (transferor_same R r (g.transferors i l), clash_none R r (g.whole i l).named i (λ j m. g.apart i j l m), there_links R r (g.linked i l))
+      rw (transferor_same R r (g.transferors i l), clash_none R r i (λ j m. g.apart i j l m), there_links R r (g.linked i l))
 
   first_clean : first_fault (first_pass s) ≡ clean
   unfolding first_pass first_fault

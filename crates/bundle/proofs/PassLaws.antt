@@ -1,7 +1,7 @@
 -- What each record adds to the two passes: the laws that their loops cite.
 -- Assumes nothing.
 use Rattle.std.specs.Prelude.{Ok, Err}
-use Prim.Native.Nat.{ℕ, ◌+◌, ◌-◌, ◌≤◌, ◌<◌}
+use Prim.Native.Nat.{ℕ, ◌+◌, ◌≤◌, ◌<◌}
 use mathlib.Core.Path.{◌≡◌, refl, ◌∙◌}
 use mathlib.Core.Bool.{Bool, true, false, cond, not}
 use mathlib.Core.Logic.{⊎_elim}
@@ -16,15 +16,15 @@ use Rattle.common.specs.Checks.{refuse, Finding, clean, fault, first_fault, each
 use Rattle.common.specs.declared.Refusal.{Refusal}
 use Rattle.common.proofs.Checks.{by_finding, or_else, fault_append}
 use Rattle.layout.specs.declared.rows.Row.{Row}
-use Rattle.layout.specs.Layout.{layout}
+use Rattle.layout.specs.Layout.{table_at, layout}
+use Rattle.layout.specs.declared.Table.{Table}
 use Rattle.layout.specs.Fields.{transferor_of}
 use Rattle.layout.specs.Rules.{first_broken, broken_field}
 use Rattle.layout.specs.Helpers.{first_row, obeys_row}
 use Rattle.layout.proofs.BrokenField.{broken_in_table}
 use Rattle.bundle.specs.Records.{Rec, no_rec, step_of, between, records_of, rest_of}
 use Rattle.bundle.specs.Keys.{other_transferor, earlier_of}
-use Rattle.bundle.specs.Links.{links, link_rows, no_link, joins, serves, missing_link}
-use Rattle.bundle.specs.declared.links.Link.{Link}
+use Rattle.bundle.specs.Links.{links, link_rows, no_link, missing_link}
 use Rattle.bundle.specs.Verdict.{limit, field_checks, end_checks, first_pass, record_checks, second_pass, checks, judged, verdict_of}
 use Rattle.bundle.specs.Helpers.{first_tells, second_tells}
 use Rattle.bundle.specs.declared.walk.Step.TheVariants.{Unknown, Short}
@@ -40,12 +40,12 @@ unfolding first_pass
 first_start s = refl
 
 -- the first field that breaks its rule, from the rows as they were lent
-pub found_field : (t : ℕ) (body : List ℕ) {rows own : List Row} {f : ℕ} → rows ≡ layout → own ≡ take (first_row (t + 1) - first_row t) (drop (first_row t) rows)
+pub found_field : (t : Table) (body : List ℕ) {rows own : List Row} {f : ℕ} → rows ≡ layout → own ≡ take (length (table_at t).rows) (drop (first_row t) rows)
     → f ≡ first_broken (obeys_row body) own → f ≡ broken_field t body
 found_field t body e o q = rw (q, o, e) (broken_in_table t body)
 
 module _ (s : List ℕ) (p i : ℕ) (h : Here s p i) where
-  module _ {t start next : ℕ} (w : Stands s p i t start next) {f : ℕ} (q : f ≡ broken_field t (between start next s)) where
+  module _ {t : Table} {start next : ℕ} (w : Stands s p i t start next) {f : ℕ} (q : f ≡ broken_field t (between start next s)) where
     field_step : first_from s i ≡ cond (not (eqb f 0)) (fault (refuse FieldBroken i f)) (first_from s (i + 1))
     unfolding each_from first_fault
     field_step = rw (w.cons, q)
@@ -142,13 +142,3 @@ module _ (s : List ℕ) (l : length s ≤ limit) where
   pub by_second : (m : ℕ) → first_tells s ≡ Ok m → verdict_of s ≡ second_tells s
   unfolding verdict_of
   by_second m e = rw (in_order, (is_clean_lem (first_fault (first_pass s)) (length (records_of s)) m e).0)
-
--- A LINK, by the test of the table that it wants
-module _ (l : Link) (r q : Rec) where
-  pub not_wanted : (q.table ≡ l.wants → ⊥) → false ≡ serves l r q
-  unfolding serves
-  not_wanted n = rw (ne_eqb q.table l.wants n)
-
-  pub wanted : q.table ≡ l.wants → {b : Bool} → b ≡ joins l.join r q → b ≡ serves l r q
-  unfolding serves
-  wanted e j = j ∙ rw (eq-eqb q.table l.wants e)

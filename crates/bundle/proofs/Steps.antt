@@ -1,20 +1,20 @@
 -- Laws of one step: the marks one by one, and what a whole record says of its place.
 -- Assumes nothing.
+use Rattle.std.specs.Prelude.{Option, Some, None}
 use Prim.Native.Nat.{ℕ, ◌+◌, ◌-◌, ◌*◌, ◌≤◌, ◌<◌}
 use mathlib.Core.Path.{◌≡◌, refl, sym, ◌∙◌, ap}
 use mathlib.Core.Bool.{Bool, true, false, cond, ◌&&◌, and-false, and-true}
 use mathlib.Core.List.{List, [], ◌∷◌}
 use native.Mathlib.Omega.{arith}
-use lib.Dec.{eqb, leb, ltb}
+use lib.Dec.{eqb, ltb}
 use lib.ListN.{length, get_or, take, drop, length-take, length-drop}
-use borrow.Author.Tests.{le-leb, lt-leb, lt-ltb, le-ltb, leb-false, ltb-false, eq-eqb, ne_eqb, eqb-true, eqb-false}
-use Rattle.common.specs.Least.{least}
+use borrow.Author.Tests.{lt-ltb, le-ltb, ltb-false, eq-eqb, ne_eqb, eqb-true, eqb-false}
 use Rattle.common.specs.Lists.{same}
-use Rattle.common.proofs.Least.{passes}
 use Rattle.common.proofs.Lists.{same_is}
-use Rattle.layout.specs.Layout.{table_count, tables, table_at, length_of}
-use Rattle.layout.proofs.Tables.{mark_length}
-use Rattle.bundle.specs.Records.{table_of, step_of}
+use Rattle.layout.specs.Layout.{each_table, table_at, length_of}
+use Rattle.layout.specs.declared.Table.{Table}
+use Rattle.layout.proofs.Tables.{mark_length, find_passes}
+use Rattle.bundle.specs.Records.{table_of, step_by, step_of}
 use Rattle.bundle.specs.Helpers.{is_mark, step_at}
 use Rattle.bundle.specs.declared.walk.Step.TheVariants.{Unknown, Short, Whole}
 
@@ -44,60 +44,59 @@ mark_short a b [] h = refl
 mark_short a b (x ∷ []) h = rw and-false
 mark_short a b (x ∷ y ∷ s) h = absurd (omega arith)
 
--- a known mark has two bytes
-pub known_long : (s : List ℕ) → table_of s < table_count → 2 ≤ length s
+-- the mark that names a table stands there, and has two bytes
+pub mark_there : (s : List ℕ) (t : Table) → table_of s ≡ Some t → take 2 s ≡ (table_at t).mark
 unfolding table_of
-known_long s h =
-    let t = table_of s in
-    let e = same_is (take 2 s) (table_at t).mark (passes (λ u. same (take 2 s) (table_at u).mark) table_count h) in
-    omega (arith, length-take 2 s, ap length e, mark_length t h)
+mark_there s t e = same_is (take 2 s) (table_at t).mark (find_passes (λ u. same (take 2 s) (table_at u).mark) each_table t e)
+
+pub known_long : (s : List ℕ) (t : Table) → table_of s ≡ Some t → 2 ≤ length s
+known_long s t e = omega (arith, length-take 2 s, ap length (mark_there s t e), mark_length t)
 
 -- a whole record has a table, stands behind its mark, and lies in the bytes
-pub record Lies (s : List ℕ) (t start next : ℕ) : Type 0 where
-  pub named : t < table_count
-  pub table : t ≡ table_of s
+pub record Lies (s : List ℕ) (t : Table) (start next : ℕ) : Type 0 where
+  pub table : table_of s ≡ Some t
   pub behind : start ≡ 2
   pub long : next ≡ 2 + length_of t
   pub inside : next ≤ length s
 
-by_tests : (a b : Bool) (t m start next u : ℕ) → cond a Unknown (cond b Short (Whole t 2 m)) ≡ Whole u start next
-    → (a ≡ false) × (b ≡ false) × (t ≡ u) × (start ≡ 2) × (m ≡ next)
-by_tests true b t m start next u e = let z : ◌≡◌ {A = ℕ} 0 1 = cc in absurd (omega arith)
-by_tests false true t m start next u e = let z : ◌≡◌ {A = ℕ} 0 1 = cc in absurd (omega arith)
-by_tests false false t m start next u e = (refl, refl, cc, cc, cc)
+by_test : (b : Bool) (t : Table) (m : ℕ) (u : Table) (start next : ℕ) → cond b Short (Whole t 2 m) ≡ Whole u start next → (b ≡ false) × (t ≡ u) × (start ≡ 2) × (m ≡ next)
+by_test true t m u start next e = let z : ◌≡◌ {A = ℕ} 0 1 = cc in absurd (omega arith)
+by_test false t m u start next e = (refl, cc, cc, cc)
 
-pub whole_lies : (s : List ℕ) (t start next : ℕ) → step_of s ≡ Whole t start next → Lies s t start next
+pub whole_lies : (s : List ℕ) (t : Table) (start next : ℕ) → step_of s ≡ Whole t start next → Lies s t start next
 unfolding step_of
-whole_lies s t start next e =
-    let d = by_tests (leb table_count (table_of s)) (ltb (length s) (2 + length_of (table_of s))) (table_of s) (2 + length_of (table_of s)) start next t e in
-    let n = leb-false table_count (table_of s) d.0 in
-    let l = ltb-false (length s) (2 + length_of (table_of s)) d.1 in
-    record {
-      named = rw (← d.2) n;
-      table = sym d.2;
-      behind = d.3;
-      long = sym d.4 ∙ ap (λ u. 2 + length_of u) d.2;
-      inside = rw (← d.4) l;
-    }
+whole_lies s t start next e = go (table_of s) refl e
+  where
+    go : (o : Option Table) → table_of s ≡ o → step_by s o ≡ Whole t start next → Lies s t start next
+    go None q f = let z : ◌≡◌ {A = ℕ} 0 1 = cc in absurd (omega arith)
+    go (Some u) q f =
+        let d = by_test (ltb (length s) (2 + length_of u)) u (2 + length_of u) t start next f in
+        let l = ltb-false (length s) (2 + length_of u) d.0 in
+        record {
+          table = q ∙ ap Some d.1;
+          behind = d.2;
+          long = sym d.3 ∙ ap (λ v. 2 + length_of v) d.1;
+          inside = rw (← d.3) l;
+        }
 
 -- where nothing is left there is no mark
 pub nothing_there : step_of [] ≡ Unknown
-unfolding step_of table_of least same table_at tables
+unfolding step_of table_of same table_at
 nothing_there = refl
 
 -- THE STEP AT A PLACE, by its tests
-module _ (s : List ℕ) (p : ℕ) {t : ℕ} (e : t ≡ table_of (drop p s)) where
-  pub step_unknown : table_count ≤ t → Unknown ≡ step_at s p
+module _ (s : List ℕ) (p : ℕ) where
+  pub step_unknown : table_of (drop p s) ≡ None → Unknown ≡ step_at s p
   unfolding step_at step_of
-  step_unknown h = rw (← e, le-leb _ _ h)
+  step_unknown e = rw e
 
-  module _ (h : t < table_count) {l : ℕ} (n : l ≡ length_of t) (f : p + 2 ≤ length s) where
+  module _ {t : Table} (e : table_of (drop p s) ≡ Some t) {l : ℕ} (n : l ≡ length_of t) (f : p + 2 ≤ length s) where
     pub step_short : length s - (p + 2) < l → Short ≡ step_at s p
     unfolding step_at step_of
-    step_short g = rw (← e, lt-leb _ _ h, ← n, lt-ltb (length (drop p s)) (2 + l) (rw length-drop (omega arith)))
+    step_short g = rw (e, ← n, lt-ltb (length (drop p s)) (2 + l) (rw length-drop (omega arith)))
 
     pub step_whole : l ≤ length s - (p + 2) → Whole t (p + 2) (p + 2 + l) ≡ step_at s p
     unfolding step_at step_of
     step_whole g =
         let q : p + (2 + l) ≡ p + 2 + l = omega arith in
-        rw (← e, lt-leb _ _ h, ← n, le-ltb (length (drop p s)) (2 + l) (rw length-drop (omega arith)), q)
+        rw (e, ← n, le-ltb (length (drop p s)) (2 + l) (rw length-drop (omega arith)), q)

@@ -6,19 +6,20 @@ use Rattle.common.specs.declared.reasons.Reason.{Reason}
 use Rattle.common.specs.declared.reasons.Reason.TheVariants.{BundleTooLong, MarkUnknown, RecordShort, FieldBroken, OtherTransferor, KeyRepeated, LinkMissing}
 use Rattle.common.specs.Lists.{every}
 use Rattle.layout.specs.Bytes.{byte_Y}
-use Rattle.layout.specs.Layout.{CO, AR, ME, table_count, table_at, length_of}
+use Rattle.layout.specs.Layout.{CO, AR, ME, table_at, length_of}
 use Rattle.layout.specs.Fields.{byte_of, transferor_of}
 use Rattle.layout.specs.Rules.{keeps_row}
 use Rattle.layout.specs.declared.rows.Row.{Row}
+use Rattle.layout.specs.declared.Table.{Table}
 use Rattle.bundle.specs.Records.{Rec}
 use Rattle.bundle.specs.Meaning.{joined, record_at, IsRecord, KeepsRules, Clash, There, OfCode, OfOffer, Serves, Linked}
 
 -- BYTES THAT ARE NO RECORD: the mark of no table stands there; or that of one does, with too few bytes behind it
 abbrev pub NoMark : List ℕ → Type 0
-NoMark s = (t : ℕ) → t < table_count → (behind : List ℕ) → s ≡ (table_at t).mark ++ behind → ⊥
+NoMark s = (t : Table) → (behind : List ℕ) → s ≡ (table_at t).mark ++ behind → ⊥
 
 abbrev pub TooShort : List ℕ → Type 0
-TooShort s = (t : ℕ) × (t < table_count) × (behind : List ℕ) × (s ≡ (table_at t).mark ++ behind) × (length behind < length_of t)
+TooShort s = (t : Table) × (behind : List ℕ) × (s ≡ (table_at t).mark ++ behind) × (length behind < length_of t)
 
 -- THE RECORDS OF A BUNDLE, accepted or not, are the whole ones that stand one after the other from its start; with what is left no further one starts
 pub record Cut (s : List ℕ) (R : List Rec) (rest : List ℕ) : Type 0 where

@@ -5,6 +5,8 @@ use Rattle.common.specs.Lists.{any}
 use Rattle.common.specs.Ranks.{rank_of}
 use Rattle.layout.specs.Fields.{offer_of, code_of}
 use Rattle.layout.specs.Helpers.{table_step}
+use Rattle.layout.specs.declared.Table.{Table}
+use Rattle.layout.specs.Layout.{table_number}
 use Rattle.bundle.specs.Records.{Rec, rec, if_whole, between, records_of}
 use Rattle.bundle.specs.Links.{links, link_rows, no_link, serves, missing_link}
 use Rattle.bundle.specs.Helpers.{step_at, places_of}
@@ -29,11 +31,11 @@ abbrev pub KeepsHints : ℕ → List ℕ → List ℕ → Type 0
 KeepsHints p before after = (s : List ℕ) → IsPlace s p → Hinted s before → Hinted s after
 
 -- a record is looked for by its code, or by its offer; one number for the table that is wanted and that
-unfoldable pub name_of : Bool → ℕ → List ℕ → List ℕ
+unfoldable pub name_of : Bool → Table → List ℕ → List ℕ
 name_of coded t body = cond coded (code_of t body) (offer_of body)
 
-unfoldable pub hint_number : ℕ → Bool → ℕ → List ℕ → ℕ
-hint_number wants coded t body = rank_of (name_of coded t body) + wants * table_step
+unfoldable pub hint_number : Table → Bool → Table → List ℕ → ℕ
+hint_number wants coded t body = rank_of (name_of coded t body) + table_number wants * table_step
 
 -- the record at a place serves
 unfoldable pub serves_at : List ℕ → Link → Rec → ℕ → Bool

@@ -1,22 +1,23 @@
 -- Links from a record to another, which stands before or after it (document 01, 'Keys and links').
 -- Assumes nothing.
-use Rattle.std.specs.Prelude.{ℕ, Bool, true, not, ◌&&◌, ◌||◌, List, [], ◌∷◌, Option, Some, None, eqb, get_or}
+use Rattle.std.specs.Prelude.{ℕ, Bool, true, not, ◌&&◌, ◌||◌, List, [], ◌∷◌, Option, Some, None, get_or}
 use Rattle.common.specs.Least.{least}
 use Rattle.common.specs.Lists.{same, any}
-use Rattle.layout.specs.Layout.{CO, RE, AR, ME}
+use Rattle.layout.specs.Layout.{CO, RE, AR, ME, is_table}
 use Rattle.layout.specs.Company.{is_all_railways}
 use Rattle.layout.specs.Fields.{is_yes, offer_of, railway_of, code_of}
+use Rattle.layout.specs.declared.Table.{Table}
 use Rattle.bundle.specs.Records.{Rec}
 use Rattle.bundle.specs.declared.links.Link.{Link}
 use Rattle.bundle.specs.declared.links.Join.{Join}
 use Rattle.bundle.specs.declared.links.Join.TheVariants.{ByCode, ByOffer, ByOfferAndRailway}
 
 -- a record of table t, where a flag f is asked a CO whose field f is Y, wants one of table w that is joined with it by j, or the detail d is told
-abbrev pub link : ℕ → Option ℕ → ℕ → Join → ℕ → Link
+abbrev pub link : Table → Option ℕ → Table → Join → ℕ → Link
 link t f w j d = record { table = t; flag = f; wants = w; join = j; detail = d }
 
 abbrev pub no_link : Link
-no_link = link 0 None 0 ByCode 0
+no_link = link CO None CO ByCode 0
 
 -- how many links there are
 abbrev pub links : ℕ
@@ -39,7 +40,7 @@ flag_is_set None body = true
 flag_is_set (Some f) body = is_yes CO f body
 
 unfoldable pub is_asked : Link → Rec → Bool
-is_asked l r = eqb l.table r.table && flag_is_set l.flag r.body
+is_asked l r = is_table l.table r.table && flag_is_set l.flag r.body
 
 -- "for a CO railway R other than 0000 that record must have railway R or 0000, for 0000 any railway serves"
 unfoldable pub railway_serves : List ℕ → List ℕ → Bool
@@ -52,7 +53,7 @@ joins ByOfferAndRailway r q = same (offer_of r.body) (offer_of q.body) && railwa
 
 -- q is a record that r wants by the link
 unfoldable pub serves : Link → Rec → Rec → Bool
-serves l r q = eqb q.table l.wants && joins l.join r q
+serves l r q = is_table q.table l.wants && joins l.join r q
 
 -- the record wants link k and none of the records serves
 abbrev pub lacks : List Rec → Rec → ℕ → Bool

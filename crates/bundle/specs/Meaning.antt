@@ -3,10 +3,11 @@
 -- Assumes nothing.
 use Rattle.std.specs.Prelude.{ℕ, ◌≤◌, ◌<◌, ◌≡◌, true, List, [], ◌∷◌, ◌++◌, ◌⊎◌, length, get_or}
 use Rattle.layout.specs.Bytes.{byte_0, byte_Y}
-use Rattle.layout.specs.Layout.{CO, RE, AR, ME, table_count, table_at, length_of}
+use Rattle.layout.specs.Layout.{CO, RE, AR, ME, table_at, length_of}
 use Rattle.layout.specs.Fields.{bytes_of, byte_of, transferor_of}
 use Rattle.layout.specs.Rules.{keeps_rules}
 use Rattle.layout.specs.Values.{InPeriod, Share}
+use Rattle.layout.specs.declared.Table.{Table}
 use Rattle.bundle.specs.Records.{Rec, no_rec}
 
 -- the bytes of some records: each behind its mark, with nothing between them
@@ -17,9 +18,8 @@ joined (r ∷ rs) = (table_at r.table).mark ++ (r.body ++ joined rs)
 abbrev pub record_at : List Rec → ℕ → Rec
 record_at R i = get_or R i no_rec
 
--- a record of one of the tables, of its length
+-- a record has the length of its table's
 pub record IsRecord (r : Rec) : Type 0 where
-  pub named : r.table < table_count
   pub long : length r.body ≡ length_of r.table
 
 -- each field keeps its rule
@@ -27,7 +27,7 @@ abbrev pub KeepsRules : Rec → Type 0
 KeepsRules r = keeps_rules r.table r.body ≡ true
 
 -- TWO RECORDS OF ONE KEY: "CO and ME: offer, railway; RE: code; AR: offer, railway, code", by the fields
-abbrev pub Alike : ℕ → ℕ → Rec → Rec → Type 0
+abbrev pub Alike : Table → ℕ → Rec → Rec → Type 0
 Alike t f r x = bytes_of t f r.body ≡ bytes_of t f x.body
 
 pub data SameKey (r x : Rec) : Type 0 where
@@ -37,7 +37,7 @@ pub data SameKey (r x : Rec) : Type 0 where
   both_me : r.table ≡ ME → x.table ≡ ME → Alike ME 2 r x → Alike ME 3 r x → SameKey r x
 
 -- a record of table t holds a day
-abbrev pub HoldsDay : ℕ → ℕ → Rec → Type 0
+abbrev pub HoldsDay : Table → ℕ → Rec → Type 0
 HoldsDay t day r = InPeriod t day r.body
 
 -- TWO RECORDS THAT MAY NOT STAND TOGETHER: "Two records of the same codes are allowed when their periods share no day"
@@ -52,14 +52,14 @@ There R Such = (j : ℕ) × (j < length R) × Such (record_at R j)
 abbrev pub OfCode : Rec → Rec → Type 0
 OfCode ar x = (x.table ≡ RE) × (bytes_of RE 2 x.body ≡ bytes_of AR 4 ar.body)
 
-abbrev pub OfOffer : ℕ → Rec → Rec → Type 0
+abbrev pub OfOffer : Table → Rec → Rec → Type 0
 OfOffer t r x = (x.table ≡ CO) × (bytes_of CO 2 x.body ≡ bytes_of t 2 r.body)
 
 -- x is a record of table t of the offer of a CO: "for a CO railway R other than 0000 that record must have railway R or 0000, for 0000 any railway serves"
 abbrev pub all_railways : List ℕ
 all_railways = byte_0 ∷ byte_0 ∷ byte_0 ∷ byte_0 ∷ []
 
-abbrev pub Serves : ℕ → Rec → Rec → Type 0
+abbrev pub Serves : Table → Rec → Rec → Type 0
 Serves t co x =
     let own : List ℕ = bytes_of CO 3 co.body in
     let its : List ℕ = bytes_of t 3 x.body in

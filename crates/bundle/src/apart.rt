@@ -5,9 +5,10 @@ ghost use Rattle.bundle.specs.Records.{rec};
 ghost use Rattle.bundle.specs.Apart.{clashes_at, slot_clashes, IsFree, ApartTells};
 
 use super::walk::Step;
+use layout::Table;
 
 // Whether the record at a place clashes with a record of a table.
-fn clashes_at<'a>(bundle: &'a [u8], place: usize, table: u32, r: &'a [u8]) -> bool
+fn clashes_at<'a>(bundle: &'a [u8], place: usize, table: Table, r: &'a [u8]) -> bool
     ensures { result ≡ clashes_at bundle.now (rec table r.now) place }
 {
     let here = super::walk::step_at(bundle, place);
@@ -23,7 +24,7 @@ fn slot_clashes<'a, 'b>(
     heads: &'b [u8],
     lows: &'b [u16],
     number: u64,
-    table: u32,
+    table: Table,
     r: &'a [u8],
     slot: usize,
 ) -> bool
@@ -41,7 +42,7 @@ fn free_slot<'a, 'b>(
     heads: &'b [u8],
     lows: &'b [u16],
     number: u64,
-    table: u32,
+    table: Table,
     r: &'a [u8],
 ) -> Option<usize>
     ensures { IfSome result (λ slot. IsFree bundle.now heads.now lows.now number (rec table r.now) slot) }
@@ -65,7 +66,7 @@ pub fn is_apart<'a>(
     bundle: &'a [u8],
     heads: &mut [u8],
     lows: &mut [u16],
-    table: u32,
+    table: Table,
     r: &'a [u8],
     at: usize,
 ) -> bool

@@ -4,6 +4,7 @@ ghost use Rattle.std.specs.Prelude.{◌≡◌, get_or};
 ghost use Rattle.bundle.specs.Hints.{hint_number, name_of, place_in, Hinted, KeepsHints};
 
 use super::walk::Step;
+use layout::Table;
 
 // A place is below this.
 const PLACES: u64 = 2097152;
@@ -16,7 +17,7 @@ const TRIES: usize = 16;
 const STRIDE: u64 = 509;
 
 // What a record is looked for by: its code, or its offer.
-fn name(coded: bool, table: u32, body: &[u8]) -> &[u8]
+fn name(coded: bool, table: Table, body: &[u8]) -> &[u8]
     ensures { result.now ≡ name_of coded table body.now }
 {
     if coded {
@@ -26,10 +27,10 @@ fn name(coded: bool, table: u32, body: &[u8]) -> &[u8]
 }
 
 // One number for the table that is wanted and what its record is looked for by, which a record of some table says.
-pub fn number(wants: u32, coded: bool, table: u32, body: &[u8]) -> u64
+pub fn number(wants: Table, coded: bool, table: Table, body: &[u8]) -> u64
     ensures { result ≡ hint_number wants coded table body.now }
 {
-    common::rank(name(coded, table, body)) + wants as u64 * layout::fields::TABLE_STEP
+    common::rank(name(coded, table, body)) + layout::number_of(wants) * layout::fields::TABLE_STEP
 }
 
 // The first slot of a number that is empty or has its tag. Any answer will do: whoever looks there sees what stands there.
@@ -74,10 +75,10 @@ pub fn put(hints: &mut [u32], slot: usize, number: u64, place: usize)
 }
 
 // Keeps where a record stands, unless a record that is looked for by the same is kept already; one for all railways, which serves each, takes its place.
-fn note(hints: &mut [u32], table: u32, body: &[u8], at: usize)
+fn note(hints: &mut [u32], table: Table, body: &[u8], at: usize)
     ensures { KeepsHints at hints.old hints.new }
 {
-    let number = number(table, table == layout::RE, table, body);
+    let number = number(table, table == Table::Re, table, body);
     let slot = slot_of(hints, number);
     if place_at(hints, slot) == 0 {
         put(hints, slot, number, at);

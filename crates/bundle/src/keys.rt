@@ -4,6 +4,8 @@ ghost use Rattle.layout.specs.Fields.{transferor_of};
 ghost use Rattle.bundle.specs.Records.{records_of, no_rec, rec};
 ghost use Rattle.bundle.specs.Keys.{clash};
 
+use layout::Table;
+
 // The transferor of the first record.
 pub fn first_transferor(bundle: &[u8]) -> &[u8]
     ensures { result.now ≡ transferor_of (get_or (records_of bundle.now) 0 no_rec).body }
@@ -12,7 +14,7 @@ pub fn first_transferor(bundle: &[u8]) -> &[u8]
 }
 
 // Whether two records may not stand together.
-pub fn clashes<'a>(t: u32, r: &'a [u8], u: u32, q: &'a [u8]) -> bool
+pub fn clashes<'a>(t: Table, r: &'a [u8], u: Table, q: &'a [u8]) -> bool
     ensures { result ≡ clash (rec t r.now) (rec u q.now) }
 {
     if t != u {

@@ -6,6 +6,7 @@ ghost use Rattle.bundle.specs.Links.{link as link_of, link_rows, no_link, is_ask
 ghost use Rattle.bundle.specs.Hints.{IsPlace, Hinted, serves_at, Found, SearchTells, LinkTells};
 
 use super::walk::Step;
+use layout::Table;
 
 // How a record is joined with another: by its code, by its offer, or by its offer and a railway that serves it.
 #[derive(Clone, Copy, PartialEq, Eq)]
@@ -18,9 +19,9 @@ pub enum Join {
 // A record of `table`, where there is a flag a CO whose field `flag` is Y, wants a record of `wants` that is joined with it; else the detail is told.
 #[derive(Clone, Copy)]
 pub struct Link {
-    pub table: u32,
+    pub table: Table,
     pub flag: Option<u32>,
-    pub wants: u32,
+    pub wants: Table,
     pub join: Join,
     pub detail: usize,
 }
@@ -30,7 +31,7 @@ const LINKS: usize = 5;
 // How many records are near: so few that no link takes much longer than by the walk from the start alone.
 const NEAR: usize = 64;
 
-fn row(table: u32, flag: Option<u32>, wants: u32, join: Join, detail: usize) -> Link
+fn row(table: Table, flag: Option<u32>, wants: Table, join: Join, detail: usize) -> Link
     ensures { result ≡ link_of table flag wants join detail }
 {
     Link {
@@ -47,17 +48,17 @@ fn link_at(k: usize) -> Link
     ensures { result ≡ get_or link_rows k no_link }
 {
     match k {
-        0 => row(layout::AR, None, layout::RE, Join::ByCode, 1),
-        1 => row(layout::AR, None, layout::CO, Join::ByOffer, 2),
-        2 => row(layout::ME, None, layout::CO, Join::ByOffer, 2),
-        3 => row(layout::CO, Some(33), layout::AR, Join::ByOfferAndRailway, 3),
-        4 => row(layout::CO, Some(37), layout::ME, Join::ByOfferAndRailway, 4),
-        _ => row(0, None, 0, Join::ByCode, 0),
+        0 => row(Table::Ar, None, Table::Re, Join::ByCode, 1),
+        1 => row(Table::Ar, None, Table::Co, Join::ByOffer, 2),
+        2 => row(Table::Me, None, Table::Co, Join::ByOffer, 2),
+        3 => row(Table::Co, Some(33), Table::Ar, Join::ByOfferAndRailway, 3),
+        4 => row(Table::Co, Some(37), Table::Me, Join::ByOfferAndRailway, 4),
+        _ => row(Table::Co, None, Table::Co, Join::ByCode, 0),
     }
 }
 
 // Whether a record wants what the link says.
-fn asked(link: Link, table: u32, r: &[u8]) -> bool
+fn asked(link: Link, table: Table, r: &[u8]) -> bool
     ensures { result ≡ is_asked link (rec table r.now) }
 {
     if link.table != table {
@@ -85,7 +86,7 @@ fn railway_serves<'a>(r: &'a [u8], q: &'a [u8]) -> bool
 }
 
 // Whether a record q is joined with the record r.
-fn are_joined<'a>(join: Join, t: u32, r: &'a [u8], u: u32, q: &'a [u8]) -> bool
+fn are_joined<'a>(join: Join, t: Table, r: &'a [u8], u: Table, q: &'a [u8]) -> bool
     ensures { result ≡ joins join (rec t r.now) (rec u q.now) }
 {
     match join {
@@ -99,7 +100,7 @@ fn are_joined<'a>(join: Join, t: u32, r: &'a [u8], u: u32, q: &'a [u8]) -> bool
 }
 
 // Whether a record q is one that the record r wants by a link.
-fn serves_it<'a>(link: Link, t: u32, r: &'a [u8], u: u32, q: &'a [u8]) -> bool
+fn serves_it<'a>(link: Link, t: Table, r: &'a [u8], u: Table, q: &'a [u8]) -> bool
     ensures { result ≡ serves link (rec t r.now) (rec u q.now) }
 {
     if u != link.wants {
@@ -109,7 +110,7 @@ fn serves_it<'a>(link: Link, t: u32, r: &'a [u8], u: u32, q: &'a [u8]) -> bool
 }
 
 // Whether the record at a place is one that a record of a table wants by a link.
-fn serves_at<'a>(bundle: &'a [u8], link: Link, table: u32, r: &'a [u8], place: usize) -> bool
+fn serves_at<'a>(bundle: &'a [u8], link: Link, table: Table, r: &'a [u8], place: usize) -> bool
     ensures { result ≡ serves_at bundle.now link (rec table r.now) place }
 {
     let here = super::walk::step_at(bundle, place);
@@ -120,7 +121,7 @@ fn serves_at<'a>(bundle: &'a [u8], link: Link, table: u32, r: &'a [u8], place: u
 }
 
 // The place of the first such record.
-fn first_served<'a>(bundle: &'a [u8], link: Link, table: u32, r: &'a [u8]) -> Option<usize>
+fn first_served<'a>(bundle: &'a [u8], link: Link, table: Table, r: &'a [u8]) -> Option<usize>
     ensures { SearchTells bundle.now link (rec table r.now) result }
 {
     let mut at = 0;
@@ -143,7 +144,7 @@ fn first_served<'a>(bundle: &'a [u8], link: Link, table: u32, r: &'a [u8]) -> Op
 fn served_near<'a>(
     bundle: &'a [u8],
     link: Link,
-    table: u32,
+    table: Table,
     r: &'a [u8],
     place: usize,
 ) -> Option<usize>
@@ -161,7 +162,7 @@ fn served_near<'a>(
 }
 
 // The place of such a record: near where one was last found, as in a bundle that is sorted, or else the first.
-fn served<'a>(bundle: &'a [u8], link: Link, table: u32, r: &'a [u8], last: usize) -> Option<usize>
+fn served<'a>(bundle: &'a [u8], link: Link, table: Table, r: &'a [u8], last: usize) -> Option<usize>
     requires { IsPlace bundle.now last }
     ensures { SearchTells bundle.now link (rec table r.now) result }
 {
@@ -173,7 +174,7 @@ fn served<'a>(bundle: &'a [u8], link: Link, table: u32, r: &'a [u8], last: usize
 
 // Whether some record of the bundle is one that a record of a table wants by link k. It is looked for first where a hint says, if there is room for any;
 // where one of link k was last found is the hint that stands in slot k.
-fn is_served<'a>(bundle: &'a [u8], hints: &mut [u32], table: u32, r: &'a [u8], k: usize) -> bool
+fn is_served<'a>(bundle: &'a [u8], hints: &mut [u32], table: Table, r: &'a [u8], k: usize) -> bool
     requires { Hinted bundle.now hints.old }
     ensures { (result ≡ any (serves (get_or link_rows k no_link) (rec table r.now)) (records_of bundle.now)) × Hinted bundle.now hints.new }
 {
@@ -198,7 +199,7 @@ fn is_served<'a>(bundle: &'a [u8], hints: &mut [u32], table: u32, r: &'a [u8], k
 }
 
 // Whether a record of a table wants link k, and none of the bundle serves.
-fn lacks_link<'a>(bundle: &'a [u8], hints: &mut [u32], table: u32, r: &'a [u8], k: usize) -> bool
+fn lacks_link<'a>(bundle: &'a [u8], hints: &mut [u32], table: Table, r: &'a [u8], k: usize) -> bool
     requires { Hinted bundle.now hints.old }
     ensures { (result ≡ lacks (records_of bundle.now) (rec table r.now) k) × Hinted bundle.now hints.new }
 {
@@ -212,7 +213,7 @@ fn lacks_link<'a>(bundle: &'a [u8], hints: &mut [u32], table: u32, r: &'a [u8], 
 pub fn missing_link<'a>(
     bundle: &'a [u8],
     hints: &mut [u32],
-    table: u32,
+    table: Table,
     r: &'a [u8],
 ) -> Option<Link>
     requires { Hinted bundle.now hints.old }

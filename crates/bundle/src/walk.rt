@@ -3,13 +3,15 @@ ghost use Rattle.std.specs.Prelude.{◌≡◌, ◌+◌, ◌*◌, ◌<◌, get_or
 ghost use Rattle.bundle.specs.Records.{table_of};
 ghost use Rattle.bundle.specs.Helpers.{is_mark, step_at, body_at, place_behind};
 
+use layout::Table;
+
 // What stands at a place of a bundle: no known mark, too few bytes for its record, or a whole record: its table, where its body starts and
 // where the next record does.
 #[derive(Clone, Copy)]
 pub enum Step {
     Unknown,
     Short,
-    Whole(u32, usize, usize),
+    Whole(Table, usize, usize),
 }
 
 // Whether a mark stands at a place, whose two bytes are compared as one number.
@@ -33,32 +35,31 @@ fn two(low: u8, high: u8) -> u32
     low as u32 + high as u32 * 256
 }
 
-// The table that the mark at a place names, TABLES where it names none.
-pub fn table_at(bundle: &[u8], at: usize) -> u32
+// The table that the mark at a place names, if it names one.
+pub fn table_at(bundle: &[u8], at: usize) -> Option<Table>
     ensures { result ≡ table_of (drop at bundle.now) }
 {
     if is_mark(bundle, at, b"CO") {
-        return layout::CO;
+        return Some(Table::Co);
     }
     if is_mark(bundle, at, b"RE") {
-        return layout::RE;
+        return Some(Table::Re);
     }
     if is_mark(bundle, at, b"AR") {
-        return layout::AR;
+        return Some(Table::Ar);
     }
     if is_mark(bundle, at, b"ME") {
-        return layout::ME;
+        return Some(Table::Me);
     }
-    layout::TABLES
+    None
 }
 
 pub fn step_at(bundle: &[u8], at: usize) -> Step
     ensures { result ≡ step_at bundle.now at }
 {
-    let table = table_at(bundle, at);
-    if layout::TABLES <= table {
+    let Some(table) = table_at(bundle, at) else {
         return Step::Unknown;
-    }
+    };
     let start = at + 2;
     let length = layout::length_of(table);
     if bundle.len() - start < length {

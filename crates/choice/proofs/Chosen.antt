@@ -9,16 +9,16 @@ use native.Mathlib.Omega.{arith}
 use lib.Dec.{eqb, leb, ltb}
 use lib.ListN.{length, length-take, length-drop}
 use borrow.Author.Tests.{eqb-true, eq-eqb, ltb-true, leb-true, le-leb}
-use Rattle.common.specs.Least.{least}
-use Rattle.common.specs.Lists.{any}
+use Rattle.common.specs.Lists.{every, any}
 use Rattle.common.specs.Digits.{digits_after, number_of, value_of}
 use Rattle.common.proofs.Tests.{never, both_true, in_range}
 use Rattle.common.proofs.Least.{passes, finds_none}
 use Rattle.common.proofs.Lists.{is_same}
-use Rattle.layout.specs.Layout.{table_at, tables, table_count, end_of, length_of}
+use Rattle.layout.specs.Layout.{is_table, table_at, end_of, length_of}
+use Rattle.layout.specs.declared.Table.{Table}
 use Rattle.layout.specs.Company.{is_company, company_of, is_all_railways}
 use Rattle.layout.specs.Fields.{row_with, row_of, bytes_of, number_in, of_offers, offer_of, railway_of, code_of, code_fits, first_day, last_day, has_period, holds_day}
-use Rattle.layout.proofs.Tables.{computed, if_so, period, offer_stands, railway_stands, railway_kept}
+use Rattle.layout.proofs.Tables.{at_each, table_is, is_table_lem, if_so, period, offer_stands, railway_stands, railway_kept}
 use Rattle.layout.proofs.Companies.{same_company, all_railways_zero}
 use Rattle.bundle.specs.Records.{Rec}
 use Rattle.bundle.specs.Meaning.{record_at, IsRecord, KeepsRules, HoldsDay, Good}
@@ -31,7 +31,7 @@ use Rattle.choice.proofs.Unique.{only_one}
 
 -- THE TESTS of a record say what it is for
 module _ (w : Wanted) (o : of_offers w.table ≡ true) (r : Rec) where
-  abbrev t : ℕ
+  abbrev t : Table
   t = w.table
 
   abbrev Is : ℕ → Type 0
@@ -44,10 +44,10 @@ module _ (w : Wanted) (o : of_offers w.table ≡ true) (r : Rec) where
   of_for : {railway : ℕ} → is_of w r ≡ true → company_of (railway_of r.body) ≡ railway → Is railway
   unfolding is_of code_fits code_of number_in
   of_for h e =
-      let b = both_true (eqb r.table t) (eqb (value_of (number_of (offer_of r.body))) w.offer && code_fits t w.code r.body) h in
+      let b = both_true (is_table r.table t) (eqb (value_of (number_of (offer_of r.body))) w.offer && code_fits t w.code r.body) h in
       let c = both_true (eqb (value_of (number_of (offer_of r.body))) w.offer) (code_fits t w.code r.body) b.1 in
       record {
-        table = eqb-true _ _ b.0;
+        table = table_is _ _ b.0;
         of_offer = ap (λ s. value_of (number_of s)) (offer_stands t o r.body) ∙ eqb-true _ _ c.0;
         of_railway_lem = railway_number ∙ e;
         of_code = by_code (eqb (table_at t).code 0) refl c.1;
@@ -69,7 +69,7 @@ module _ (w : Wanted) (o : of_offers w.table ≡ true) (r : Rec) where
   for_of : {railway : ℕ} → Is railway → (is_of w r ≡ true) × (company_of (railway_of r.body) ≡ railway)
   unfolding is_of number_in
   for_of f = (
-    rw (eq-eqb r.table t f.table, ← offer_stands t o r.body, eq-eqb _ _ f.of_offer, for_code f),
+    rw (is_table_lem r.table t f.table, ← offer_stands t o r.body, eq-eqb _ _ f.of_offer, for_code f),
     sym railway_number ∙ f.of_railway_lem,
   )
 
@@ -88,14 +88,13 @@ module _ (w : Wanted) (o : of_offers w.table ≡ true) (r : Rec) where
 
   -- a railway of four digits that says 0 is 0000
   long_enough : IsRecord r → r.table ≡ t → 13 ≤ length r.body
-  unfolding least any of_offers length_of end_of table_at tables
+  unfolding every any of_offers length_of end_of table_at
   long_enough whole e =
-      let h : t < table_count = rw (← e) whole.named in
-      let l = leb-true 13 (length_of t) (if_so (of_offers t) o (computed (λ u. not (of_offers u) || leb 13 (length_of u)) table_count refl t h)) in
+      let l = leb-true 13 (length_of t) (if_so (of_offers t) o (at_each (λ u. not (of_offers u) || leb 13 (length_of u)) refl t)) in
       omega (arith, whole.long, ap length_of e)
 
   general_is : IsRecord r → KeepsRules r → Is 0 → is_general w r ≡ true
-  unfolding is_all_railways company_of is_company number_of digits_after railway_of bytes_of row_of row_with table_at tables
+  unfolding is_all_railways company_of is_company number_of digits_after railway_of bytes_of row_of row_with table_at
   general_is whole keeps f =
       let d = for_of f in
       let l = long_enough whole f.table in
@@ -131,7 +130,7 @@ module _ (s : List ℕ) (R : List Rec) (g : Good s R) (w : Wanted) (legs : for_l
   unfolding holds_day
   holds_valid i f h =
       let r = (record_at R i).body in
-      rw ((period w.table (rw (← f.1.table) (g.whole i f.0).named)).has, le-leb (first_day w.table r) w.day h.0, le-leb w.day (last_day w.table r) h.1)
+      rw ((period w.table).has, le-leb (first_day w.table r) w.day h.0, le-leb w.day (last_day w.table r) h.1)
 
   own : (i : ℕ) → Of w.railway i → is_own w (record_at R i) ≡ true
   own i f = own_is w of_offers_lem (record_at R i) f.1
@@ -208,12 +207,12 @@ module _ (s : List ℕ) (R : List Rec) (g : Good s R) (w : Wanted) (legs : for_l
       by_own false e = by_general (ltb (first general_valid) n) refl e
 
 -- one that is used is for the railway or 0000, and holds the day
-pub uses_either : (R : List Rec) (t offer code railway day i : ℕ) → Uses R t offer code railway day i
+pub uses_either : (R : List Rec) (t : Table) (offer code railway day i : ℕ) → Uses R t offer code railway day i
     → ForEither R t offer code railway i × HoldsDay t day (record_at R i)
 uses_either R t offer code railway day i u = ⊎_elim (λ a. (inl a.0, a.1)) (λ a. (inr a.0.0, a.0.1)) u
 
 -- and nothing else is meant: a leg uses one record at most.
-module _ (s : List ℕ) (R : List Rec) (g : Good s R) (t : ℕ) (legs : for_legs t ≡ true) (offer code railway day : ℕ) where
+module _ (s : List ℕ) (R : List Rec) (g : Good s R) (t : Table) (legs : for_legs t ≡ true) (offer code railway day : ℕ) where
   abbrev Use : ℕ → Type 0
   Use i = Uses R t offer code railway day i
 

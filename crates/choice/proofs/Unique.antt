@@ -15,6 +15,7 @@ use Rattle.common.proofs.Tests.{never, both_true, side}
 use Rattle.common.proofs.Lists.{is_same, every_so}
 use Rattle.common.proofs.Digits.{within_same}
 use Rattle.layout.specs.Layout.{table_at, length_of}
+use Rattle.layout.specs.declared.Table.{Table}
 use Rattle.layout.specs.Company.{company_of}
 use Rattle.layout.specs.Fields.{bytes_of, number_in, of_offers, same_key}
 use Rattle.layout.specs.Rules.{keeps_rules}
@@ -26,12 +27,12 @@ use Rattle.choice.specs.Chosen.{IsFor, Valid}
 use Rattle.bundle.specs.Meaning.{record_at, KeepsRules, SameKey, both_co, both_re, both_ar, both_me, HoldsDay, Good}
 use Rattle.bundle.proofs.KeyMeaning.{key_means}
 
-field_long : (t f : ℕ) (a b : List ℕ) → length a ≡ length b → length (bytes_of t f a) ≡ length (bytes_of t f b)
+field_long : (t : Table) (f : ℕ) (a b : List ℕ) → length a ≡ length b → length (bytes_of t f a) ≡ length (bytes_of t f b)
 unfolding bytes_of
 field_long t f a b l = simp (length-take, length-drop, l)
 
 -- EACH FIELD OF THE KEY is the same in two such records: the offer, the railway, the code
-module _ (t : ℕ) (o : of_offers t ≡ true) (offer code railway : ℕ) (a b : Rec) (l : length a.body ≡ length b.body)
+module _ (t : Table) (o : of_offers t ≡ true) (offer code railway : ℕ) (a b : Rec) (l : length a.body ≡ length b.body)
     (p : IsFor t offer code railway a) (q : IsFor t offer code railway b) (j : KeepsRules a) (k : KeepsRules b) where
   kept : (r : Rec) → IsFor t offer code railway r → KeepsRules r → keeps_rules t r.body ≡ true
   kept r f e = rw (← f.table) e
@@ -99,7 +100,7 @@ module _ (s : List ℕ) (R : List Rec) (g : Good s R) where
       let e : (record_at R j).table ≡ (record_at R i).table = one_table (record_at R i) (record_at R j) k in
       le_antisymm (not_after i j day m k a (rw (← e) b)) (not_after j i day n (key_back (record_at R i) (record_at R j) k) b (rw e a))
 
-  module _ (t : ℕ) (legs : for_legs t ≡ true) (offer code railway day : ℕ) where
+  module _ (t : Table) (legs : for_legs t ≡ true) (offer code railway day : ℕ) where
     abbrev Such : ℕ → Type 0
     Such i = Valid R t offer code railway day i
 
@@ -114,7 +115,7 @@ module _ (s : List ℕ) (R : List Rec) (g : Good s R) where
         let l = (g.whole i m).long ∙ ap length_of (x.table ∙ sym y.table) ∙ sym (g.whole j n).long in
         let d = both_true (of_offers t) (every (is_keyed t) (table_at t).key) legs in
         let e = one_key t d.0 offer code railway (record_at R i) (record_at R j) l x y (g.fields i m) (g.fields j n) d.1 in
-        not_after i j day m (key_means _ _ (g.whole i m).named (y.table ∙ sym x.table) (rw x.table e)) (rw x.table a.1) (rw x.table b.1)
+        not_after i j day m (key_means _ _ (y.table ∙ sym x.table) (rw x.table e)) (rw x.table a.1) (rw x.table b.1)
 
     -- In a good bundle there is one record at most of a table for an offer, a railway or 0000, and a code, that holds a day.
     pub only_one : (i j : ℕ) → Such i → Such j → i ≡ j

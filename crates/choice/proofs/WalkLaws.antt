@@ -15,6 +15,9 @@ use Rattle.common.proofs.Least.{within, start, more, hit, stays}
 use Rattle.common.proofs.Tests.{never}
 use Rattle.common.specs.Digits.{number_of, value_of}
 use Rattle.layout.specs.Company.{company_of, is_all_railways}
+use Rattle.layout.specs.Layout.{is_table}
+use Rattle.layout.specs.declared.Table.{Table}
+use Rattle.layout.proofs.Tables.{table_is}
 use Rattle.layout.specs.Fields.{offer_of, railway_of, code_fits}
 use Rattle.bundle.specs.Records.{Rec, no_rec, records_of}
 use Rattle.bundle.specs.Helpers.{places_of, body_at}
@@ -29,19 +32,19 @@ use Rattle.choice.specs.declared.Wanted.{Wanted}
 
 -- A RECORD HELD AGAINST WHAT IS WANTED, test by test
 module _ (w : Wanted) (r : Rec) where
-  pub by_table : (r.table ≡ w.table → ⊥) → Other ≡ whose_of w r
+  pub by_table : is_table r.table w.table ≡ false → Other ≡ whose_of w r
   unfolding whose_of is_of
-  by_table n = rw (ne_eqb r.table w.table n)
+  by_table n = rw n
 
-  module _ (t : r.table ≡ w.table) {o : ℕ} (e : o ≡ value_of (number_of (offer_of r.body))) where
+  module _ (t : is_table r.table w.table ≡ true) {o : ℕ} (e : o ≡ value_of (number_of (offer_of r.body))) where
     pub by_offer : (o ≡ w.offer → ⊥) → Other ≡ whose_of w r
     unfolding whose_of is_of
-    by_offer n = rw (eq-eqb r.table w.table t, ← e, ne_eqb o w.offer n)
+    by_offer n = rw (t, ← e, ne_eqb o w.offer n)
 
     module _ (p : o ≡ w.offer) {k : Bool} (f : k ≡ code_fits r.table w.code r.body) where
       is_of_lem : k ≡ is_of w r
       unfolding is_of
-      is_of_lem = f ∙ rw (eq-eqb r.table w.table t, ← e, eq-eqb o w.offer p, t)
+      is_of_lem = f ∙ rw (t, ← e, eq-eqb o w.offer p, table_is _ _ t)
 
       pub by_code : k ≡ false → Other ≡ whose_of w r
       unfolding whose_of
@@ -184,7 +187,7 @@ module _ (s : List ℕ) (w : Wanted) where
   standing_start = rw (start general, start either)
 
   -- one record more
-  module _ (p j : ℕ) {t start-at next : ℕ} (e : Stands s p j t start-at next) {f : Role} (g : f ≡ cond (general j) General (cond (either j) OffItsDays Other)) where
+  module _ (p j : ℕ) {t : Table} {start-at next : ℕ} (e : Stands s p j t start-at next) {f : Role} (g : f ≡ cond (general j) General (cond (either j) OffItsDays Other)) where
     pub remembers : noted_at (standing j) f p ≡ standing (j + 1)
     remembers = go (ltb (least general j) j) (general j) (ltb (least either j) j) (either j) refl refl refl refl
       where
@@ -201,7 +204,7 @@ module _ (s : List ℕ) (w : Wanted) where
         go false false false false k l m n = rw (g, k, l, m, n, (next_found general j false false k l).0, (next_found either j false false m n).0)
 
   -- the railway's own record, valid, was met
-  pub own_met : (p j : ℕ) {t start-at next : ℕ} → Stands s p j t start-at next → least own j ≡ j → own j ≡ true → At p ≡ at_place s (choice_of R w)
+  pub own_met : (p j : ℕ) {t : Table} {start-at next : ℕ} → Stands s p j t start-at next → least own j ≡ j → own j ≡ true → At p ≡ at_place s (choice_of R w)
   unfolding choice_of
   own_met p j e l o =
       let k : least own (length R) ≡ j = hit own j (length R) l o e.below in

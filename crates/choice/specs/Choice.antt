@@ -4,7 +4,8 @@ use Rattle.std.specs.Prelude.{ℕ, Bool, cond, not, ◌&&◌, ◌||◌, List, eq
 use Rattle.common.specs.Least.{least}
 use Rattle.common.specs.Lists.{every}
 use Rattle.common.specs.Digits.{number_of, value_of}
-use Rattle.layout.specs.Layout.{table_at}
+use Rattle.layout.specs.Layout.{is_table, table_at}
+use Rattle.layout.specs.declared.Table.{Table}
 use Rattle.layout.specs.Company.{company_of, is_all_railways}
 use Rattle.layout.specs.Fields.{of_offers, offer_of, railway_of, code_fits, holds_day}
 use Rattle.bundle.specs.Records.{Rec, no_rec}
@@ -13,16 +14,16 @@ use Rattle.choice.specs.declared.Choice.{Choice}
 use Rattle.choice.specs.declared.Choice.TheVariants.{At, NotThatDay, Nothing}
 
 -- a table that a leg's record may be chosen from: its key is the offer, the railway and, where it has one, the code
-abbrev pub is_keyed : ℕ → ℕ → Bool
+abbrev pub is_keyed : Table → ℕ → Bool
 is_keyed t f = eqb f 2 || (eqb f 3 || (eqb f (table_at t).code && not (eqb (table_at t).code 0)))
 
-unfoldable pub for_legs : ℕ → Bool
+unfoldable pub for_legs : Table → Bool
 for_legs t = of_offers t && every (is_keyed t) (table_at t).key
 
 -- a record of the table, of the offer and, where the table has one, of the code
 unfoldable pub is_of : Wanted → Rec → Bool
 is_of w r =
-    eqb r.table w.table && (eqb (value_of (number_of (offer_of r.body))) w.offer && code_fits w.table w.code r.body)
+    is_table r.table w.table && (eqb (value_of (number_of (offer_of r.body))) w.offer && code_fits w.table w.code r.body)
 
 -- the railway's own, one for all railways, and either of them
 abbrev pub is_own : Wanted → Rec → Bool

@@ -2,6 +2,7 @@
 -- Assumes nothing.
 use Rattle.std.specs.Prelude.{ℕ, ◌<◌, ◌≡◌, List, ◌⊎◌, length}
 use Rattle.layout.specs.Layout.{table_at}
+use Rattle.layout.specs.declared.Table.{Table}
 use Rattle.layout.specs.Fields.{number_in}
 use Rattle.bundle.specs.Records.{Rec}
 use Rattle.bundle.specs.Meaning.{record_at, HoldsDay}
@@ -9,13 +10,13 @@ use Rattle.choice.specs.declared.Choice.{Choice}
 use Rattle.choice.specs.declared.Choice.TheVariants.{At, NotThatDay, Nothing}
 
 -- a record of a table for an offer (field 2), a railway (field 3; 0 stands for 0000, all railways) and, where the table has one, a code
-pub record IsFor (t offer code railway : ℕ) (r : Rec) : Type 0 where
+pub record IsFor (t : Table) (offer code railway : ℕ) (r : Rec) : Type 0 where
   pub table : r.table ≡ t
   pub of_offer : number_in t 2 r.body ≡ offer
   pub of_railway_lem : number_in t 3 r.body ≡ railway
   pub of_code : ((table_at t).code ≡ 0) ⊎ (number_in t (table_at t).code r.body ≡ code)
 
-module _ (R : List Rec) (t offer code : ℕ) where
+module _ (R : List Rec) (t : Table) (offer code : ℕ) where
   -- record i is for that railway; for it or for 0000
   abbrev pub For : ℕ → ℕ → Type 0
   For railway i = (i < length R) × IsFor t offer code railway (record_at R i)

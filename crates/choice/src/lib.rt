@@ -7,11 +7,12 @@ ghost use Rattle.choice.specs.Choice.{choice_of};
 ghost use Rattle.choice.specs.Helpers.{at_place, whose_of, fit_of, noted_at};
 
 use bundle::walk::Step;
+use layout::Table;
 
 // What is wanted of a record: its table, and the offer, railway, code and day that are asked for. The code of a table that has none is not looked at.
 #[derive(Clone, Copy)]
 pub struct Wanted {
-    pub table: u32,
+    pub table: Table,
     pub offer: u32,
     pub railway: u32,
     pub code: u32,
@@ -36,7 +37,7 @@ enum Role {
 }
 
 // Whether a record is the railway's own, one for all railways, or another.
-fn whose(wanted: Wanted, table: u32, body: &[u8]) -> Role
+fn whose(wanted: Wanted, table: Table, body: &[u8]) -> Role
     ensures { result ≡ whose_of wanted (rec table body.now) }
 {
     if table != wanted.table {
@@ -59,7 +60,7 @@ fn whose(wanted: Wanted, table: u32, body: &[u8]) -> Role
 }
 
 // The same, and whether it is valid that day if it is one of these two.
-fn fit(wanted: Wanted, table: u32, body: &[u8]) -> Role
+fn fit(wanted: Wanted, table: Table, body: &[u8]) -> Role
     ensures { result ≡ fit_of wanted (rec table body.now) }
 {
     let whose = whose(wanted, table, body);

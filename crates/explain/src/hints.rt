@@ -1,9 +1,9 @@
 // What the usual mistakes look like: small letters, bytes too many or too few, and a file that was saved in other characters.
 use super::places::body_at;
 use bundle::walk::table_at;
-use layout::fields;
 use layout::rows::Row;
 use layout::rules::Rule;
+use layout::{Table, fields};
 use names::field_names::say_mark;
 use names::field_rules::first_bad;
 use names::words::{say, say_length, say_quoted, sum};
@@ -12,7 +12,7 @@ use std::io;
 // What may be wrong where a record should start and no mark stands.
 pub fn tell_mark_mistakes(rt: &impl Print, bundle: &[u8], at: usize) -> io::Result<()> {
     let table = table_in_capitals(bundle, at);
-    if table < layout::TABLES {
+    if table.is_some() {
         say(rt, b"Marks are capital letters: this would be the mark ")?;
         say_mark(rt, table)?;
         return say(rt, b".\n");
@@ -32,8 +32,8 @@ pub fn tell_field_mistakes(rt: &impl Print, bundle: &[u8], at: usize, row: Row) 
     tell_shift(rt, bundle, sum(sum(at, 2), body.len()))
 }
 
-// The table whose mark stands at a place if small letters count as capital ones.
-fn table_in_capitals(bundle: &[u8], at: usize) -> u32 {
+// The table whose mark stands at a place, if one does, where small letters count as capital ones.
+fn table_in_capitals(bundle: &[u8], at: usize) -> Option<Table> {
     let mark = [
         capital(common::byte_at(bundle, sum(at, 1))),
         capital(common::byte_at(bundle, sum(at, 2))),
@@ -117,7 +117,7 @@ fn nearest_start(bundle: &[u8], due: usize) -> usize {
 
 // A mark may also stand in a text; behind that of a record stands a transferor.
 fn seems_start(bundle: &[u8], at: usize) -> bool {
-    if layout::TABLES <= table_at(bundle, at) {
+    if table_at(bundle, at).is_none() {
         return false;
     }
     let behind = common::part(bundle, sum(at, 2), 4);

@@ -1,6 +1,7 @@
 // Reads a bundle from standard input and tells the verdict on it in words, for the railway that delivered it.
 #![tactic(auto)]
 
+use layout::Table;
 use names::{field_names, words};
 use std::io;
 
@@ -11,8 +12,8 @@ mod refusals;
 // The most bytes that a bundle may have.
 const LIMIT: usize = 1048576;
 
-fn tell_count(rt: &impl Print, bundle: &[u8], records: usize, table: u32) -> io::Result<()> {
-    field_names::say_table(rt, table)?;
+fn tell_count(rt: &impl Print, bundle: &[u8], records: usize, table: Table) -> io::Result<()> {
+    field_names::say_table(rt, Some(table))?;
     let count = places::count_of(bundle, records, table);
     println!(rt; ": {count}")
 }
@@ -26,10 +27,10 @@ fn tell_accepted(rt: &impl Print, bundle: &[u8], records: usize) -> io::Result<(
         b"The bundle is accepted: every record keeps the rules. ",
     )?;
     words::say(rt, b"Its records by table:\n")?;
-    tell_count(rt, bundle, records, layout::CO)?;
-    tell_count(rt, bundle, records, layout::RE)?;
-    tell_count(rt, bundle, records, layout::AR)?;
-    tell_count(rt, bundle, records, layout::ME)
+    tell_count(rt, bundle, records, Table::Co)?;
+    tell_count(rt, bundle, records, Table::Re)?;
+    tell_count(rt, bundle, records, Table::Ar)?;
+    tell_count(rt, bundle, records, Table::Me)
 }
 
 fn explain(rt: &impl Print, bundle: &[u8]) -> io::Result<()> {

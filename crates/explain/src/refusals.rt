@@ -1,10 +1,10 @@
 // Each refusal of a bundle in words: what is wrong, with which record, and what would be right.
 use super::hints;
-use super::places::{body_at, place_of};
+use super::places::{body_at, length_at, place_of};
 use bundle::walk::table_at;
 use common::{Reason, Refusal};
 use layout::rows::Row;
-use layout::{fields, rows};
+use layout::{Table, fields, rows};
 use names::field_names::{say_field, say_mark, say_table};
 use names::field_rules::say_rule;
 use names::words::{say, say_bytes, say_delivered, say_quoted, sum};
@@ -43,27 +43,27 @@ fn tell_too_long(rt: &impl Print) -> io::Result<()> {
 }
 
 // What names a record within its table: offer and railway, or code, or all three.
-fn say_key(rt: &impl Print, table: u32, body: &[u8]) -> io::Result<()> {
-    if table == layout::RE {
+fn say_key(rt: &impl Print, table: Option<Table>, body: &[u8]) -> io::Result<()> {
+    if table == Some(Table::Re) {
         say(rt, b"code ")?;
-        return say_bytes(rt, fields::code(table, body));
+        return say_bytes(rt, fields::code(Table::Re, body));
     }
     say(rt, b"offer ")?;
     say_bytes(rt, fields::offer(body))?;
     say(rt, b", railway ")?;
     say_bytes(rt, fields::railway(body))?;
-    if table == layout::AR {
+    if table == Some(Table::Ar) {
         say(rt, b", code ")?;
-        say_bytes(rt, fields::code(table, body))?;
+        say_bytes(rt, fields::code(Table::Ar, body))?;
     }
     Ok(())
 }
 
 // Whether the last field of the key is there whole, in a record that may be cut short.
-fn has_key(table: u32, body: &[u8]) -> bool {
+fn has_key(table: Option<Table>, body: &[u8]) -> bool {
     match table {
-        layout::RE => fields::code(table, body).len() == 3,
-        layout::AR => fields::code(table, body).len() == 3,
+        Some(Table::Re) => fields::code(Table::Re, body).len() == 3,
+        Some(Table::Ar) => fields::code(Table::Ar, body).len() == 3,
         _ => fields::railway(body).len() == 4,
     }
 }
@@ -115,7 +115,7 @@ fn tell_record_before(rt: &impl Print, bundle: &[u8], record: usize) -> io::Resu
 fn tell_cut_short(rt: &impl Print, bundle: &[u8], record: usize) -> io::Result<()> {
     let at = place_of(bundle, record);
     let left = body_at(bundle, at).len();
-    let length = layout::length_of(table_at(bundle, at));
+    let length = length_at(bundle, at);
     let lacking = length.saturating_sub(left);
     say(rt, b"The bundle ends inside a record.\n")?;
     tell_record(rt, bundle, record, at)?;
@@ -138,7 +138,10 @@ fn tell_broken_field(
     let table = table_at(bundle, at);
     let body = body_at(bundle, at);
     let all = rows::all();
-    let of_table = rows::of_table(&all, table);
+    let of_table = match table {
+        Some(table) => rows::of_table(&all, table),
+        None => &[],
+    };
     let row = rows::of_field(of_table, field);
     say(rt, b"A field breaks its rule.\n")?;
     tell_record(rt, bundle, record, at)?;
@@ -151,7 +154,7 @@ fn tell_broken_field(
 }
 
 // A field's number and name, and where it stands in the record and in the bundle.
-fn tell_field(rt: &impl Print, table: u32, row: Row, at: usize) -> io::Result<()> {
+fn tell_field(rt: &impl Print, table: Option<Table>, row: Row, at: usize) -> io::Result<()> {
     let field = row.field;
     let start = row.start;
     let length = row.length;
@@ -197,7 +200,10 @@ fn tell_repeated_key(
     let table = table_at(bundle, at);
     let body = body_at(bundle, at);
     let other = body_at(bundle, before);
-    let shared = fields::first_shared_day(table, body, other);
+    let shared = match table {
+        Some(table) => fields::first_shared_day(table, body, other),
+        None => 0,
+    };
     say(
         rt,
         b"The record has the key of an earlier record, and the two periods overlap.\n",
@@ -219,9 +225,19 @@ fn tell_repeated_key(
     )
 }
 
-fn tell_period(rt: &impl Print, table: u32, record: usize, body: &[u8]) -> io::Result<()> {
-    let first = fields::first_day(table, body);
-    let last = fields::last_day(table, body);
+fn tell_period(
+    rt: &impl Print,
+    table: Option<Table>,
+    record: usize,
+    body: &[u8],
+) -> io::Result<()> {
+    let (first, last) = match table {
+        Some(table) => (
+            fields::first_day(table, body),
+            fields::last_day(table, body),
+        ),
+        None => (0, 0),
+    };
     print!(rt; "Record {record} is valid from {first} to {last}, both days included.\n")
 }
 
@@ -242,8 +258,8 @@ fn tell_missing_link(
     match detail {
         1 => tell_code_wanted(rt, body)?,
         2 => tell_conditions_wanted(rt, table, body)?,
-        3 => tell_flag_wants(rt, 33, layout::AR, body)?,
-        4 => tell_flag_wants(rt, 37, layout::ME, body)?,
+        3 => tell_flag_wants(rt, 33, Table::Ar, body)?,
+        4 => tell_flag_wants(rt, 37, Table::Me, body)?,
         _ => say(rt, b"Another record")?,
     }
     say(rt, b" is needed; there is none.\nAdd that record")?;
@@ -258,10 +274,10 @@ fn tell_code_wanted(rt: &impl Print, body: &[u8]) -> io::Result<()> {
         rt,
         b"An AR record needs the RE record of its code, so an RE record of code ",
     )?;
-    say_bytes(rt, fields::code(layout::AR, body))
+    say_bytes(rt, fields::code(Table::Ar, body))
 }
 
-fn tell_conditions_wanted(rt: &impl Print, table: u32, body: &[u8]) -> io::Result<()> {
+fn tell_conditions_wanted(rt: &impl Print, table: Option<Table>, body: &[u8]) -> io::Result<()> {
     say(rt, b"An ")?;
     say_mark(rt, table)?;
     say(
@@ -273,12 +289,12 @@ fn tell_conditions_wanted(rt: &impl Print, table: u32, body: &[u8]) -> io::Resul
 }
 
 // A CO record's flag that is Y wants a record of its offer, for its railway or for all of them.
-fn tell_flag_wants(rt: &impl Print, flag: u32, wants: u32, body: &[u8]) -> io::Result<()> {
+fn tell_flag_wants(rt: &impl Print, flag: u32, wants: Table, body: &[u8]) -> io::Result<()> {
     let railway = fields::railway(body);
     print!(rt; "Flag {flag}, ")?;
-    say_field(rt, layout::CO, flag)?;
+    say_field(rt, Some(Table::Co), flag)?;
     say(rt, b", is Y, so an ")?;
-    say_mark(rt, wants)?;
+    say_mark(rt, Some(wants))?;
     say(rt, b" record of offer ")?;
     say_bytes(rt, fields::offer(body))?;
     if layout::company::is_all_railways(railway) {

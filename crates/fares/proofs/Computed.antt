@@ -10,7 +10,7 @@ use Rattle.common.specs.Checks.{first_fault, each_from}
 use Rattle.common.proofs.Listed.{each}
 use Rattle.layout.specs.Company.{is_company, is_all_railways, is_transferor, company_of, is_railway}
 use Rattle.layout.specs.Dates.{is_day, month_length, month_lengths}
-use Rattle.layout.specs.Layout.{length_of, end_of, table_at, tables}
+use Rattle.layout.specs.Layout.{length_of, end_of, table_at}
 use Rattle.layout.specs.Fields.{row_with, row_of, bytes_of, byte_of, number_in, is_yes, transferor_of, offer_of, railway_of, code_of, code_fits, same_key, day_row, has_period, first_day, last_day, holds_day, first_shared, last_shared, share_day, grant_in}
 use Rattle.layout.specs.Rules.{number_or_blank, most_persons, factor_rule, first_day_rule, last_day_rule, ruled, kept_beside, keeps_row, first_broken, broken_field}
 use Rattle.bundle.specs.Records.{table_of, step_of, records_from, rest_from, records_of, rest_of}
@@ -29,5 +29,5 @@ use Rattle.fares.specs.Figures.{Figure, Says, figures}
 
 -- THE FIGURES
 pub fare_figures_hold : (x : Figure) → Memᴰ x figures → Says x
-unfolding least every any only same sum first_of digits_after number_of first_fault each_from is_company is_all_railways is_transferor company_of is_railway is_day month_length month_lengths length_of end_of table_at tables row_with row_of bytes_of byte_of number_in is_yes transferor_of offer_of railway_of code_of code_fits same_key day_row has_period first_day last_day holds_day first_shared last_shared share_day grant_in number_or_blank most_persons factor_rule first_day_rule last_day_rule ruled kept_beside keeps_row first_broken broken_field table_of step_of records_from rest_from records_of rest_of other_transferor clash earlier_of link_rows is_asked railway_serves joins serves missing_link is_of choice_of first_pass second_pass checks cards_in_limits cards_differ in_limits rounded upwards downwards nearest reduce_by reduce_all insert insert_all flat_map least_from after_cards cards_for persons_fit unread part_by parts_of price_checks fare_checks fare_of digits period year conditions_in named_in card_in
+unfolding least every any only same sum first_of digits_after number_of first_fault each_from is_company is_all_railways is_transferor company_of is_railway is_day month_length month_lengths length_of end_of table_at row_with row_of bytes_of byte_of number_in is_yes transferor_of offer_of railway_of code_of code_fits same_key day_row has_period first_day last_day holds_day first_shared last_shared share_day grant_in number_or_blank most_persons factor_rule first_day_rule last_day_rule ruled kept_beside keeps_row first_broken broken_field table_of step_of records_from rest_from records_of rest_of other_transferor clash earlier_of link_rows is_asked railway_serves joins serves missing_link is_of choice_of first_pass second_pass checks cards_in_limits cards_differ in_limits rounded upwards downwards nearest reduce_by reduce_all insert insert_all flat_map least_from after_cards cards_for persons_fit unread part_by parts_of price_checks fare_checks fare_of digits period year conditions_in named_in card_in
 fare_figures_hold = each Says figures (refl, (refl, (refl, (refl, (refl, (refl, (refl, (refl, (refl, (refl, (refl, (refl, (refl, (refl, (refl, (refl, (refl, (refl, (refl, (refl, (refl, (refl, (refl, (refl, (refl, (refl, (refl, (refl, (refl, (refl, (refl, (refl, (refl, (refl, (refl, (refl, (refl, (refl, (refl, (refl, (refl, (refl, (refl, (refl, (refl, (refl, (refl, (refl, (refl, (refl, (refl, (refl, (refl, (refl, (refl, (refl, (refl, (refl, tt))))))))))))))))))))))))))))))))))))))))))))))))))))))))))

@@ -16,7 +16,8 @@ use Rattle.std.specs.Prelude.{None}
 use Rattle.common.proofs.Tests.{both_true}
 use Rattle.common.proofs.Digits.{within_value}
 use Rattle.layout.specs.Bytes.{byte_blank, byte_plus, byte_minus, byte_0, byte_N, is_blank}
-use Rattle.layout.specs.Layout.{CO, AR, table_at, tables}
+use Rattle.layout.specs.Layout.{CO, AR, table_at}
+use Rattle.layout.specs.declared.Table.{Table}
 use Rattle.layout.specs.Fields.{row_with, row_of, bytes_of, byte_of, number_in, grant_in}
 use Rattle.layout.specs.Rules.{is_rounding, number_or_blank, factor_rule, ruled, kept_beside, keeps_row}
 use Rattle.layout.specs.declared.rows.Row.{Row}
@@ -79,11 +80,11 @@ unfolding factor_rule
 factor_above mode s h n = (within_value 1 999 (number_of s) (rw (ne_eqb mode byte_N n) at h)).0
 
 module _ (r : Rec) (keeps : KeepsRules r) where
-  kept : (t f : ℕ) → r.table ≡ t → any (λ (w : Row). eqb w.field f) (table_at t).rows ≡ true → keeps_row t r.body (row_of t f) ≡ true
+  kept : (t : Table) (f : ℕ) → r.table ≡ t → any (λ (w : Row). eqb w.field f) (table_at t).rows ≡ true → keeps_row t r.body (row_of t f) ≡ true
   kept t f e h = keeps_field t f r.body (rw (← e) keeps) h
 
   pub conditions_lawful : r.table ≡ CO → Lawful (conditions_grant r.body)
-  unfolding any keeps_row kept_beside ruled grant_in number_in byte_of bytes_of row_of row_with table_at tables
+  unfolding any keeps_row kept_beside ruled grant_in number_in byte_of bytes_of row_of row_with table_at
   conditions_lawful e =
       record {
         at_most_whole = at_most unit (bytes_of CO 39 r.body) _ refl (kept CO 39 e refl);
@@ -92,7 +93,7 @@ module _ (r : Rec) (keeps : KeepsRules r) where
       }
 
   pub card_lawful : r.table ≡ AR → Lawful (card_grants r.body)
-  unfolding any keeps_row kept_beside ruled grant_in number_in byte_of bytes_of row_of row_with table_at tables
+  unfolding any keeps_row kept_beside ruled grant_in number_in byte_of bytes_of row_of row_with table_at
   card_lawful e =
       record {
         at_most_whole = (within_value 0 unit (number_of (bytes_of AR 5 r.body)) (kept AR 5 e refl)).1;

@@ -15,7 +15,7 @@ use Rattle.common.specs.Lists.{only}
 use Rattle.common.specs.Checks.{refuse, fault, first_fault}
 use Rattle.common.proofs.Only.{only_few}
 use Rattle.common.proofs.Lists.{first_length, first_at}
-use Rattle.layout.specs.Layout.{CO, AR, table_at, tables}
+use Rattle.layout.specs.Layout.{CO, AR, table_at}
 use Rattle.layout.specs.Fields.{row_with, row_of, byte_of, is_yes}
 use Rattle.bundle.specs.Records.{Rec, no_rec, records_of}
 use Rattle.choice.specs.Choice.{choice_of}
@@ -161,7 +161,7 @@ module _ (s : List ℕ) (q : Question) (leg : Leg) where
 
   -- no card counts where there is no CO,
   pub no_conditions_cards : (conditions ≡ NotThatDay) ⊎ (conditions ≡ Nothing) → applied_for R q leg (body_of R conditions) ≡ []
-  unfolding is_yes byte_of row_of row_with table_at tables
+  unfolding is_yes byte_of row_of row_with table_at
   no_conditions_cards h = ⊎_elim (λ e. rw e) (λ e. rw e) h
 
   -- and as the CO's flag 33 says

@@ -15,7 +15,7 @@ use Rattle.common.specs.Lists.{every, any}
 use Rattle.common.specs.Checks.{refuse, clean, fault, first_fault}
 use Rattle.common.proofs.Tests.{never, both_true, either_false, refuted}
 use Rattle.layout.specs.Bytes.{byte_Y}
-use Rattle.layout.specs.Layout.{CO, table_at, tables}
+use Rattle.layout.specs.Layout.{CO, table_at}
 use Rattle.layout.specs.Fields.{row_with, row_of, byte_of, number_in, is_flag_row, is_yes, of_offers}
 use Rattle.bundle.specs.Records.{Rec}
 use Rattle.choice.specs.Choice.{for_legs}
@@ -106,7 +106,7 @@ module _ (co : List ℕ) where
       rw (yes_is g b.0, d.0) (one_set earlier f later b.1 s d.1)
 
 unread_flags : AreFlags unread_fields
-unfolding every row_of row_with table_at tables
+unfolding every row_of row_with table_at
 unread_flags = refl
 
 first_unread : (co : List ℕ) → SetOrNot co unread_fields
@@ -123,7 +123,7 @@ one_unread_is co f h =
 
 -- A LEG of an accepted bundle
 conditions_legs : for_legs CO ≡ true
-unfolding for_legs of_offers any every table_at tables
+unfolding for_legs of_offers any every table_at
 conditions_legs = refl
 
 module _ (s : List ℕ) (R : List Rec) (g : Good s R) (q : Question) (leg : Leg) where

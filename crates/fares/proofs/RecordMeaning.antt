@@ -5,6 +5,7 @@ use mathlib.Core.Path.{◌≡◌}
 use mathlib.Core.List.{List}
 use mathlib.Core.Logic.{⊎_elim}
 use native.Mathlib.Omega.{arith}
+use Rattle.layout.specs.declared.Table.{Table}
 use Rattle.layout.specs.Fields.{grant_in}
 use Rattle.fares.specs.Reductions.{reduce_by}
 use Rattle.fares.specs.Rounding.{IsRounded}
@@ -24,7 +25,7 @@ rounded_only x y =
     (λ a. ⊎_elim (λ b. omega (arith, a.0, b.0)) (⊎_elim (λ b. omega (arith, a.0, b.0)) (⊎_elim (λ b. omega (arith, a.0, b.0)) (λ b. near_only a.1 b.1))) y))) x
 
 -- A STEP by a record's grant is the amount after that record, and the only one
-module _ (t d m f : ℕ) (body : List ℕ) (l : Lawful (grant_in t d m f body)) (before : ℕ) where
+module _ (t : Table) (d m f : ℕ) (body : List ℕ) (l : Lawful (grant_in t d m f body)) (before : ℕ) where
   pub reduced_by : IsReduced t d m f body before (reduce_by before (grant_in t d m f body))
   unfolding grant_in
   reduced_by = record { at_most_whole = l.at_most_whole; rounded_once = rounded_as_said (grant_in t d m f body) l before }

@@ -16,7 +16,7 @@ use Rattle.common.proofs.Lists.{any_at, at_any, first_length, first_at}
 use Rattle.common.proofs.Rising.{has, all_any, other, all_other, rises, rising_at, at_rising, rising_only}
 use Rattle.common.proofs.Only.{has_at, at_has, has_each, has_only, every_has, any_flat, other_only}
 use Rattle.layout.specs.Bytes.{byte_N, byte_Y}
-use Rattle.layout.specs.Layout.{CO, AR, table_at, tables}
+use Rattle.layout.specs.Layout.{CO, AR, table_at}
 use Rattle.layout.specs.Fields.{row_with, row_of, byte_of, number_in, is_yes, of_offers}
 use Rattle.layout.specs.Rules.{ruled, kept_beside, keeps_row}
 use Rattle.layout.proofs.Tables.{keeps_field}
@@ -38,16 +38,16 @@ use Rattle.fares.proofs.CardSlots.{means_differ}
 
 -- AN AR is a leg's,
 card_legs : for_legs AR ≡ true
-unfolding for_legs of_offers any every table_at tables
+unfolding for_legs of_offers any every table_at
 card_legs = refl
 
 -- its flag is Y or N: by the rules what is not together is alone
 is_together_lem : (body : List ℕ) → is_together body ≡ eqb (byte_of AR 6 body) byte_Y
-unfolding is_yes row_of row_with table_at tables
+unfolding is_yes row_of row_with table_at
 is_together_lem body = refl
 
 flag_kept : (r : Rec) → KeepsRules r → r.table ≡ AR → (eqb (byte_of AR 6 r.body) byte_Y || eqb (byte_of AR 6 r.body) byte_N) ≡ true
-unfolding any keeps_row kept_beside ruled byte_of row_of row_with table_at tables
+unfolding any keeps_row kept_beside ruled byte_of row_of row_with table_at
 flag_kept r keeps e = keeps_field AR 6 r.body (rw (← e) keeps) refl
 
 not_together : (r : Rec) → KeepsRules r → r.table ≡ AR → eqb (byte_of AR 6 r.body) byte_Y ≡ false → byte_of AR 6 r.body ≡ byte_N
@@ -103,7 +103,7 @@ module _ (s : List ℕ) (R : List Rec) (g : Good s R) (q : Question) (leg : Leg)
   card_choice card = choice_means s R g (wanted_for AR card q leg) card_legs
 
   code_is : (card i : ℕ) → IsCard R q leg card i → number_in AR 4 (body R i) ≡ card
-  unfolding table_at tables
+  unfolding table_at
   code_is card i u =
       ⊎_elim (λ f. by_code f.1.of_code) (λ f. by_code f.1.of_code) (uses_either R AR q.offer card leg.railway q.day i u).0
     where
@@ -183,7 +183,7 @@ module _ (s : List ℕ) (R : List Rec) (g : Good s R) (q : Question) (leg : Leg)
     Saying flag i = AppliesWith R q leg co flag i
 
     allowed_is : is_yes CO 33 co ≡ eqb (byte_of CO 33 co) byte_Y
-    unfolding is_yes row_of row_with table_at tables
+    unfolding is_yes row_of row_with table_at
     allowed_is = refl
 
     -- A RECORD IS AMONG THOSE THAT ARE APPLIED exactly if it applies

@@ -10,7 +10,8 @@ use lib.Dec.{leb}
 use lib.ListN.{length, length-take}
 use borrow.Author.Tests.{leb-true, leb-false}
 use Rattle.common.proofs.Digits.{number_small}
-use Rattle.layout.specs.Layout.{CO, AR, table_at, tables}
+use Rattle.layout.specs.Layout.{CO, AR, table_at}
+use Rattle.layout.specs.declared.Table.{Table}
 use Rattle.layout.specs.Fields.{row_with, row_of, bytes_of, number_in, grant_in}
 use Rattle.layout.specs.declared.fields.Grant.{Grant}
 use Rattle.fares.specs.Rounding.{unit}
@@ -18,7 +19,7 @@ use Rattle.fares.specs.Reductions.{conditions_grant, card_grants, reduce_by, red
 use Rattle.fares.proofs.RoundLaws.{rounded_small, rounded_mono}
 
 -- a number of three digits is at most 999: the factors of CO and AR, and the rating and the code of an AR
-three_digits : (t f : ℕ) (body : List ℕ) → (row_of t f).length ≡ 3 → number_in t f body ≤ 999
+three_digits : (t : Table) (f : ℕ) (body : List ℕ) → (row_of t f).length ≡ 3 → number_in t f body ≤ 999
 unfolding number_in bytes_of
 three_digits t f body e =
     let l : length (bytes_of t f body) ≤ 3 = rw (e, length-take) (omega arith) in
@@ -26,19 +27,19 @@ three_digits t f body e =
 
 module _ (body : List ℕ) where
   pub conditions_small : (conditions_grant body).factor ≤ 999
-  unfolding grant_in row_of row_with table_at tables
+  unfolding grant_in row_of row_with table_at
   conditions_small = three_digits CO 41 body refl
 
   pub card_small : (card_grants body).factor ≤ 999
-  unfolding grant_in row_of row_with table_at tables
+  unfolding grant_in row_of row_with table_at
   card_small = three_digits AR 10 body refl
 
   pub rating_small : number_in AR 7 body ≤ 999
-  unfolding row_of row_with table_at tables
+  unfolding row_of row_with table_at
   rating_small = three_digits AR 7 body refl
 
   pub code_small : number_in AR 4 body ≤ 999
-  unfolding row_of row_with table_at tables
+  unfolding row_of row_with table_at
   code_small = three_digits AR 4 body refl
 
 module _ (r : Grant) where

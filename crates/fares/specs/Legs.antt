@@ -5,6 +5,7 @@ use mathlib.Core.List.{List, [], ◌∷◌, map, flat_map}
 use Rattle.common.specs.declared.reasons.Reason.TheVariants.{NoConditions, DayOutside, PersonsOutside, ConditionUnread}
 use Rattle.common.specs.Checks.{Check, check}
 use Rattle.layout.specs.Layout.{CO, AR}
+use Rattle.layout.specs.declared.Table.{Table}
 use Rattle.layout.specs.Fields.{number_in, is_yes}
 use Rattle.bundle.specs.Records.{Rec, no_rec}
 use Rattle.choice.specs.Choice.{choice_of}
@@ -18,7 +19,7 @@ use Rattle.fares.specs.declared.Leg.{Leg}
 use Rattle.fares.specs.declared.Question.{Question}
 
 -- WHICH RECORDS. What is wanted of a record for a leg: its table, a code, and the offer, the leg's railway and the day
-abbrev pub wanted_for : ℕ → ℕ → Question → Leg → Wanted
+abbrev pub wanted_for : Table → ℕ → Question → Leg → Wanted
 wanted_for t c q leg = record { table = t; offer = q.offer; railway = leg.railway; code = c; day = q.day }
 
 -- "The record for a leg is then the railway's own one valid that day, else the 0000 one valid that day"

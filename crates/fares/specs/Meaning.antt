@@ -8,6 +8,7 @@ use Rattle.common.specs.Lists.{any, sum}
 use Rattle.layout.specs.Bytes.{byte_N, byte_Y}
 use Rattle.layout.specs.Calendar.{RealDay}
 use Rattle.layout.specs.Layout.{CO, AR}
+use Rattle.layout.specs.declared.Table.{Table}
 use Rattle.layout.specs.Fields.{number_in, byte_of}
 use Rattle.bundle.specs.Records.{Rec}
 use Rattle.choice.specs.Chosen.{ForEither, Uses}
@@ -52,7 +53,7 @@ SameCards before after = (j : ℕ) → j < 4 → (get_or before j 0 ≡ 0 → �
 
 -- AN AMOUNT AFTER A RECORD: "plain fare times (100,000 - discount) / 100,000 as an exact fraction, rounded by the .. record", by the record's fields of
 -- discount, rounding and factor; a discount that is blank is 0
-pub record IsReduced (t discount rounding factor : ℕ) (body : List ℕ) (before after : ℕ) : Type 0 where
+pub record IsReduced (t : Table) (discount rounding factor : ℕ) (body : List ℕ) (before after : ℕ) : Type 0 where
   pub at_most_whole : number_in t discount body ≤ 100000
   pub rounded_once : IsRounded (byte_of t rounding body) (before * (100000 - number_in t discount body)) (number_in t factor body) after
 

@@ -8,6 +8,7 @@ ghost use Rattle.fares.specs.Helpers.{place_of, placed};
 use super::{Leg, Question};
 use arrayvec::ArrayVec;
 use choice::{Choice, Wanted};
+use layout::Table;
 
 // The AR records that apply, in the order of the cards, by the places of their marks.
 pub type Cards = ArrayVec<usize, 4>;
@@ -20,7 +21,7 @@ pub struct LegRecords {
 }
 
 // What is wanted of a record for a leg.
-fn wanted_for(table: u32, code: u32, q: Question, leg: Leg) -> Wanted
+fn wanted_for(table: Table, code: u32, q: Question, leg: Leg) -> Wanted
     ensures { result ≡ wanted_for table code q leg }
 {
     Wanted {
@@ -39,7 +40,7 @@ fn card_for(bundle: &[u8], q: Question, leg: Leg, card: u32) -> Choice
     if card == 0 {
         return Choice::Nothing;
     }
-    choice::choose(bundle, wanted_for(layout::AR, card, q, leg))
+    choice::choose(bundle, wanted_for(Table::Ar, card, q, leg))
 }
 
 fn cards_for(bundle: &[u8], q: Question, leg: Leg) -> Cards
@@ -58,7 +59,7 @@ fn cards_for(bundle: &[u8], q: Question, leg: Leg) -> Cards
 pub fn choose(bundle: &[u8], q: Question, leg: Leg) -> LegRecords
     ensures { result ≡ placed bundle.now q leg }
 {
-    let conditions = choice::choose(bundle, wanted_for(layout::CO, 0, q, leg));
+    let conditions = choice::choose(bundle, wanted_for(Table::Co, 0, q, leg));
     let Choice::At(place) = conditions else {
         return LegRecords {
             conditions,

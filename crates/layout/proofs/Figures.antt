@@ -9,7 +9,7 @@ use Rattle.common.specs.Digits.{digits_after, number_of}
 use Rattle.common.proofs.Listed.{All, each}
 use Rattle.common.proofs.Lists.{same_is, is_same}
 use Rattle.common.proofs.Tests.{both_true}
-use Rattle.layout.specs.Layout.{RE, AR, tables, table_at, end_of, length_of}
+use Rattle.layout.specs.Layout.{RE, AR, table_at, end_of, length_of}
 use Rattle.layout.specs.Fields.{row_with, row_of, bytes_of, number_in, offer_of, railway_of, code_of, same_key, day_row, has_period, first_day, last_day, holds_day}
 use Rattle.layout.specs.Dates.{month_lengths, month_length}
 use Rattle.layout.specs.Figures.{Figure, Alike, Says, figures, in_a_row, in_runs}
@@ -35,20 +35,20 @@ unfolding sum up_to month_lengths month_length
 of_calendar = (refl, (refl, (refl, of_bytes)))
 
 of_periods : All Says (drop 20 figures)
-unfolding tables table_at any row_with bytes_of row_of number_in day_row has_period first_day last_day holds_day
+unfolding table_at any row_with bytes_of row_of number_in day_row has_period first_day last_day holds_day
 of_periods =
     (λ body. (refl, refl, λ d. between _ d _), (λ body. (refl, refl, λ d. between _ d _), (λ body. (refl, refl, λ d. between _ d _), (λ body. (refl, refl, λ d. between _ d _), of_calendar))))
 
 of_keys : All Says (drop 16 figures)
-unfolding tables table_at every same row_with row_of bytes_of offer_of railway_of code_of same_key
+unfolding table_at every same row_with row_of bytes_of offer_of railway_of code_of same_key
 of_keys =
     let of_offers_lem = alike_means (offer_of ∷ railway_of ∷ []) in
     (of_offers_lem, (of_offers_lem, (alike_means (code_of RE ∷ []), (alike_means (offer_of ∷ railway_of ∷ code_of AR ∷ []), of_periods))))
 
 of_codes : All Says (drop 12 figures)
-unfolding tables table_at row_with row_of bytes_of code_of
+unfolding table_at row_with row_of bytes_of code_of
 of_codes = (λ body. refl, (λ body. refl, (λ body. refl, (λ body. refl, of_keys))))
 
 pub layout_figures_hold : (x : Figure) → Memᴰ x figures → Says x
-unfolding tables table_at end_of length_of in_a_row in_runs sum
+unfolding table_at end_of length_of in_a_row in_runs sum
 layout_figures_hold = each Says figures (refl, (refl, (refl, (refl, (refl, (refl, (refl, (refl, (refl, (refl, (refl, (refl, of_codes))))))))))))

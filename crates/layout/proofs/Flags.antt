@@ -10,17 +10,17 @@ use borrow.Author.Tests.{not-true, eqb-true, leb-true, ne_eqb}
 use Rattle.common.specs.Least.{least}
 use Rattle.common.specs.Lists.{every}
 use Rattle.common.proofs.Tests.{both_true}
-use Rattle.layout.specs.Layout.{CO, tables, table_at}
+use Rattle.layout.specs.Layout.{CO, table_at}
 use Rattle.layout.specs.Fields.{row_with, row_of, is_flag_row}
 use Rattle.layout.specs.declared.rows.Row.{Row}
 use Rattle.layout.proofs.Tables.{computed}
 
 pub flags_stand : (k : ℕ) → k < 8 → (is_flag_row (row_of CO (31 + k)) ≡ true) × ((row_of CO (31 + k)).start ≡ 120 + k)
-unfolding least row_of row_with table_at tables
+unfolding least row_of row_with table_at
 flags_stand k h = (computed (λ j. is_flag_row (row_of CO (31 + j))) 8 refl k h, eqb-true _ _ (computed (λ j. eqb (row_of CO (31 + j)).start (120 + j)) 8 refl k h))
 
 pub no_flag_before : (f : ℕ) → f < 31 → (f ≡ 27 → ⊥) → is_flag_row (row_of CO f) ≡ false
-unfolding least row_of row_with table_at tables
+unfolding least row_of row_with table_at
 no_flag_before f h n = not-true _ (rw (ne_eqb f 27 n) at (computed (λ g. eqb g 27 || not (is_flag_row (row_of CO g))) 31 refl f h))
 
 none_beyond : (f : ℕ) → 38 < f → (rs : List Row) → every (λ (r : Row). not (is_flag_row r) || leb r.field 38) rs ≡ true
@@ -38,5 +38,5 @@ none_beyond f h (r ∷ rs) e =
     go false q g p k ih = ih
 
 pub no_flag_behind : (f : ℕ) → 38 < f → is_flag_row (row_of CO f) ≡ false
-unfolding row_of every table_at tables
+unfolding row_of every table_at
 no_flag_behind f h = none_beyond f h (table_at CO).rows refl

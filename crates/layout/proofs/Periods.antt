@@ -9,6 +9,7 @@ use lib.Dec.{leb}
 use borrow.Author.Tests.{leb-true, leb-false, le-leb, lt-leb}
 use Rattle.layout.specs.Fields.{first_day, last_day, later, earlier, first_shared, last_shared, share_day}
 use Rattle.layout.specs.Values.{InPeriod, Share}
+use Rattle.layout.specs.declared.Table.{Table}
 
 -- THE LATER AND THE EARLIER of two days
 pub later_is_max : (a b : ℕ) → max a b ≡ later a b
@@ -53,7 +54,7 @@ earlier_greatest a b d l m = go (leb a b)
     go true = l
     go false = m
 
-module _ (t : ℕ) (a b : List ℕ) where
+module _ (t : Table) (a b : List ℕ) where
   -- the first day that they share, if they share any, is the later first day
   first_later : (first_day t a ≤ first_shared t a b) × (first_day t b ≤ first_shared t a b)
   unfolding first_shared

@@ -15,18 +15,19 @@ use Rattle.common.proofs.Tests.{either_way}
 use Rattle.common.proofs.Lists.{same_is, is_same}
 use Rattle.layout.specs.Bytes.{byte_blank, byte_Y}
 use Rattle.layout.specs.Company.{is_all_railways, is_railway}
-use Rattle.layout.specs.Layout.{CO, tables, table_at}
+use Rattle.layout.specs.Layout.{CO, table_at}
 use Rattle.layout.specs.Fields.{row_with, row_of, bytes_of, byte_of, number_in, is_flag_row, is_yes}
+use Rattle.layout.specs.declared.Table.{Table}
 use Rattle.layout.specs.Values.{Blank, Within, Readings, Railways}
 use Rattle.layout.proofs.Meanings.{between}
 use Rattle.layout.proofs.Flags.{flags_stand}
 
-set_if_Y : (t f : ℕ) (body : List ℕ) → is_flag_row (row_of t f) ≡ true → (is_yes t f body ≡ true) ↔ (byte_of t f body ≡ byte_Y)
+set_if_Y : (t : Table) (f : ℕ) (body : List ℕ) → is_flag_row (row_of t f) ≡ true → (is_yes t f body ≡ true) ↔ (byte_of t f body ≡ byte_Y)
 unfolding is_yes
 set_if_Y t f body e = rw e (eqb-true (byte_of t f body) byte_Y, eq-eqb (byte_of t f body) byte_Y)
 
 is_flag_lem : (f : ℕ) → (f ≡ 27) ⊎ Within 31 38 f → is_flag_row (row_of CO f) ≡ true
-unfolding row_of row_with table_at tables
+unfolding row_of row_with table_at
 is_flag_lem f w = ⊎_elim (λ e. rw e) (λ h. let k : 31 + (f - 31) ≡ f = omega arith in rw k at (flags_stand (f - 31) (omega arith)).0) w
 
 -- blanks are no digits

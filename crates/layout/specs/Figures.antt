@@ -9,6 +9,7 @@ use Rattle.layout.specs.Layout.{CO, RE, AR, ME, table_at, length_of}
 use Rattle.layout.specs.Fields.{bytes_of, number_in, offer_of, railway_of, code_of, same_key, first_day, last_day, holds_day}
 use Rattle.layout.specs.Dates.{month_length}
 use Rattle.layout.specs.Values.{InPeriod}
+use Rattle.layout.specs.declared.Table.{Table}
 use Rattle.layout.specs.declared.rows.Row.{Row}
 
 -- fields that follow each other, by the lengths that 001 gives them: each has its number, starts behind the one before, and is so long
@@ -23,17 +24,17 @@ in_runs p (r ∷ rs) = in_a_row r.0 p r.1 ++ in_runs (p + sum r.1) rs
 
 pub data Figure : Type 0 where
   -- a table's mark is these two letters, in ISO 8859-1
-  marked : (table first second : ℕ) → Figure
+  marked : (table : Table) (first second : ℕ) → Figure
   -- its records are so long without it
-  long : (table bytes : ℕ) → Figure
+  long : (table : Table) (bytes : ℕ) → Figure
   -- its fields are so long, from position 1 on
-  fields : (table : ℕ) → List (ℕ × List ℕ) → Figure
+  fields : (table : Table) → List (ℕ × List ℕ) → Figure
   -- its code is this field, 0 where it has none
-  coded : (table field : ℕ) → Figure
+  coded : (table : Table) (field : ℕ) → Figure
   -- two of its records have the same key exactly if each of these is the same in both
-  keyed : (table : ℕ) → List (List ℕ → List ℕ) → Figure
+  keyed : (table : Table) → List (List ℕ → List ℕ) → Figure
   -- the period of its records is from the day of the one field to that of the other, both inside
-  period : (table first last : ℕ) → Figure
+  period : (table : Table) (first last : ℕ) → Figure
   -- the months of a year are so long
   months : (year : ℕ) → List ℕ → Figure
   -- so many years have so many days

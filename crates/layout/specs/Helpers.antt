@@ -3,37 +3,34 @@
 use Rattle.std.specs.Prelude.{ℕ, ◌+◌, ◌-◌, ◌*◌, Bool, cond, List, map, eqb, length, take}
 use Rattle.common.specs.Lists.{sum, byte_at}
 use Rattle.common.specs.Ranks.{rank_of}
-use Rattle.layout.specs.Layout.{Table, tables, table_at}
+use Rattle.layout.specs.Layout.{each_table, table_number, table_at}
 use Rattle.layout.specs.Fields.{field_at, row_of}
 use Rattle.layout.specs.Rules.{kept_beside}
+use Rattle.layout.specs.declared.Table.{Table}
 use Rattle.layout.specs.declared.rows.Row.{Row}
 use Rattle.layout.specs.declared.fields.Span.{Span}
 
--- how many rows the layout has
-abbrev pub row_count : ℕ
-row_count = 57
-
 -- where the rows of a table start in the layout: behind those of the tables before it
-unfoldable pub first_row : ℕ → ℕ
-first_row t = sum (map (λ (b : Table). length b.rows) (take t tables))
+unfoldable pub first_row : Table → ℕ
+first_row t = sum (map (λ (u : Table). length (table_at u).rows) (take (table_number t) each_table))
 
 -- where a table's code stands and how many bytes it has, none where it has no code
 abbrev pub no_span : Span
 no_span = (0, 0)
 
-unfoldable pub code_span : ℕ → Span
+unfoldable pub code_span : Table → Span
 code_span t = cond (eqb (table_at t).code 0) no_span ((row_of t (table_at t).code).start, (row_of t (table_at t).code).length)
 
 -- how many bytes the fields of a table's key have together
-unfoldable pub key_length : ℕ → ℕ
+unfoldable pub key_length : Table → ℕ
 key_length t = sum (map (λ f. (row_of t f).length) (table_at t).key)
 
 -- one number for a record's table and key, which stands from position 5 on; the step tells the numbers of one table from those of another
 abbrev pub table_step : ℕ
 table_step = 1000003
 
-unfoldable pub key_number : ℕ → List ℕ → ℕ
-key_number t body = rank_of (field_at 5 (key_length t) body) + t * table_step
+unfoldable pub key_number : Table → List ℕ → ℕ
+key_number t body = rank_of (field_at 5 (key_length t) body) + table_number t * table_step
 
 -- a record keeps the rule of a row, whatever its table: the least persons and the rounding are read right before it, the first day before the version
 unfoldable pub obeys_row : List ℕ → Row → Bool

@@ -1,28 +1,42 @@
 -- The tables and their layout, in the document's shape (document 01, 'The bundle'): one block for each table, with its mark, the fields of its key, the
 -- field of its code and its rows. The rows own every position; elsewhere a field is a table and a field number.
 -- Assumes nothing.
-use Rattle.std.specs.Prelude.{ℕ, ◌+◌, ◌-◌, Bool, true, ◌&&◌, List, [], ◌∷◌, ◌++◌, eqb, ltb, get_or}
+use Rattle.std.specs.Prelude.{ℕ, ◌+◌, ◌-◌, Bool, true, ◌&&◌, List, [], ◌∷◌, ◌++◌, eqb, ltb}
+use denote.Enum.Bare.{sameb}
 use Rattle.layout.specs.Bytes.{byte_A, byte_C, byte_E, byte_M, byte_O, byte_R}
+use Rattle.layout.specs.contracts.Table.{the_type}
+use Rattle.layout.specs.declared.Table.{Table}
+use Rattle.layout.specs.declared.Table.TheVariants.{Co, Re, Ar, Me}
 use Rattle.layout.specs.declared.rows.Row.{Row}
 use Rattle.layout.specs.declared.rules.Rule.{Rule}
 use Rattle.layout.specs.declared.rules.Rule.TheVariants.{Text, Transferor, Railway, Number, NumberOrBlank, Flag, FlagOrBlank, MostPersons, Rounding, Factor, FirstDay, LastDay}
 
--- the tables, numbered in the order of their blocks
-abbrev pub CO : ℕ
-CO = 0
+-- the tables, in the order of their blocks
+abbrev pub CO : Table
+CO = Co
 
-abbrev pub RE : ℕ
-RE = 1
+abbrev pub RE : Table
+RE = Re
 
-abbrev pub AR : ℕ
-AR = 2
+abbrev pub AR : Table
+AR = Ar
 
-abbrev pub ME : ℕ
-ME = 3
+abbrev pub ME : Table
+ME = Me
 
--- how many there are
-abbrev pub table_count : ℕ
-table_count = 4
+abbrev pub each_table : List Table
+each_table = CO ∷ RE ∷ AR ∷ ME ∷ []
+
+-- the number of each in that order
+abbrev pub table_number : Table → ℕ
+table_number Co = 0
+table_number Re = 1
+table_number Ar = 2
+table_number Me = 3
+
+-- whether two are the same
+abbrev pub is_table : Table → Table → Bool
+is_table = sameb the_type
 
 -- A ROW: field, first and last position, and the rule, which `Rules` says
 abbrev pub row : ℕ → ℕ → ℕ → Rule → Row
@@ -31,17 +45,14 @@ row f first last asked = record { field = f; start = first; length = last + 1 - 
 abbrev pub no_row : Row
 no_row = record { field = 0; start = 0; length = 0; rule = Text }
 
--- A TABLE: its mark, "the last two letters of its file name"; the fields of its key; the field of its code, 0 where it has none; its rows
-pub record Table : Type 0 where
+-- A BLOCK: the mark of its table, "the last two letters of its file name"; the fields of its key; the field of its code, 0 where it has none; its rows
+pub record Block : Type 0 where
   pub mark : List ℕ
   pub key : List ℕ
   pub code : ℕ
   pub rows : List Row
 
-abbrev pub no_table : Table
-no_table = record { mark = []; key = []; code = 0; rows = [] }
-
-abbrev pub co : Table
+abbrev pub co : Block
 co = record {
   mark = byte_C ∷ byte_O ∷ [];
   key = 2 ∷ 3 ∷ [];
@@ -72,7 +83,7 @@ co = record {
       [];
 }
 
-abbrev pub re : Table
+abbrev pub re : Block
 re = record {
   mark = byte_R ∷ byte_E ∷ [];
   key = 2 ∷ [];
@@ -92,7 +103,7 @@ re = record {
       [];
 }
 
-abbrev pub ar : Table
+abbrev pub ar : Block
 ar = record {
   mark = byte_A ∷ byte_R ∷ [];
   key = 2 ∷ 3 ∷ 4 ∷ [];
@@ -114,7 +125,7 @@ ar = record {
       [];
 }
 
-abbrev pub me : Table
+abbrev pub me : Block
 me = record {
   mark = byte_M ∷ byte_E ∷ [];
   key = 2 ∷ 3 ∷ [];
@@ -134,11 +145,11 @@ me = record {
       [];
 }
 
-unfoldable pub tables : List Table
-tables = co ∷ re ∷ ar ∷ me ∷ []
-
-unfoldable pub table_at : ℕ → Table
-table_at t = get_or tables t no_table
+unfoldable pub table_at : Table → Block
+table_at Co = co
+table_at Re = re
+table_at Ar = ar
+table_at Me = me
 
 -- where the last of some rows ends, p where there is none
 unfoldable pub end_of : ℕ → List Row → ℕ
@@ -146,7 +157,7 @@ end_of p [] = p
 end_of p (r ∷ rs) = end_of (r.start + r.length - 1) rs
 
 -- a record's length without its mark is where its last row ends
-unfoldable pub length_of : ℕ → ℕ
+unfoldable pub length_of : Table → ℕ
 length_of t = end_of 0 (table_at t).rows
 
 -- some rows stand one behind the other from position p on, with no gap and no overlap
@@ -157,7 +168,7 @@ stand_from p (r ∷ rs) = eqb r.start p && (ltb 0 r.length && stand_from (p + r.
 -- THE LAYOUT: the rows of all tables in turn
 unfoldable pub layout_from : List Table → List Row
 layout_from [] = []
-layout_from (b ∷ bs) = b.rows ++ layout_from bs
+layout_from (t ∷ ts) = (table_at t).rows ++ layout_from ts
 
 unfoldable pub layout : List Row
-layout = layout_from tables
+layout = layout_from each_table

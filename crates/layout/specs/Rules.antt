@@ -8,6 +8,7 @@ use Rattle.layout.specs.Company.{is_company, is_transferor}
 use Rattle.layout.specs.Dates.{is_day}
 use Rattle.layout.specs.Layout.{table_at}
 use Rattle.layout.specs.Fields.{bytes_in, bytes_of, byte_of, is_first, day_row}
+use Rattle.layout.specs.declared.Table.{Table}
 use Rattle.layout.specs.declared.rows.Row.{Row}
 use Rattle.layout.specs.declared.rules.Rule.{Rule}
 use Rattle.layout.specs.declared.rules.Rule.TheVariants.{Text, Transferor, Railway, Number, NumberOrBlank, Flag, FlagOrBlank, MostPersons, Rounding, Factor, FirstDay, LastDay}
@@ -63,7 +64,7 @@ unfoldable pub kept_beside : List ℕ → ℕ → List ℕ → List ℕ → Row 
 kept_beside fewest mode first body row = ruled fewest mode first (byte_at row.start body) (bytes_in row body) row.rule
 
 -- a record of table t keeps the rule of a row: the fewest persons, and the rounding, are the field before it
-unfoldable pub keeps_row : ℕ → List ℕ → Row → Bool
+unfoldable pub keeps_row : Table → List ℕ → Row → Bool
 keeps_row t body row =
     kept_beside (bytes_of t (row.field - 1) body) (byte_of t (row.field - 1) body) (bytes_in (day_row is_first t) body) body row
 
@@ -73,9 +74,9 @@ first_broken kept [] = 0
 first_broken kept (row ∷ rs) = cond (kept row) (first_broken kept rs) row.field
 
 -- "fields from left to right": the first field that breaks its rule, 0 where none does
-unfoldable pub broken_field : ℕ → List ℕ → ℕ
+unfoldable pub broken_field : Table → List ℕ → ℕ
 broken_field t body = first_broken (keeps_row t body) (table_at t).rows
 
 -- every field keeps its rule
-unfoldable pub keeps_rules : ℕ → List ℕ → Bool
+unfoldable pub keeps_rules : Table → List ℕ → Bool
 keeps_rules t body = every (keeps_row t body) (table_at t).rows

@@ -8,6 +8,7 @@ use Rattle.layout.specs.Company.{is_all_railways, is_railway}
 use Rattle.layout.specs.Layout.{CO, RE, AR, ME}
 use Rattle.layout.specs.Fields.{bytes_of, byte_of, number_in, is_yes, first_day, last_day}
 use Rattle.layout.specs.Calendar.{RealDay}
+use Rattle.layout.specs.declared.Table.{Table}
 
 -- each byte of a field
 abbrev pub Each : (ℕ → Type 0) → List ℕ → Type 0
@@ -43,7 +44,7 @@ pub data Value : Type 0 where
   last_day_value : (first : ℕ) → Value
 
 -- and what that means of a field of a record, of its bytes or of its one byte
-module _ (t f : ℕ) (body : List ℕ) where
+module _ (t : Table) (f : ℕ) (body : List ℕ) where
   abbrev bytes : List ℕ
   bytes = bytes_of t f body
 
@@ -71,11 +72,11 @@ module _ (t f : ℕ) (body : List ℕ) where
 
 -- THE FIELDS of a table, from the first to the last of some that may say alike
 pub record Field : Type 0 where
-  pub table : ℕ
+  pub table : Table
   pub field : ℕ
   pub value : Value
 
-abbrev pub says : (table first last : ℕ) → Value → List Field
+abbrev pub says : (table : Table) (first last : ℕ) → Value → List Field
 says t first last v = up_to (λ k. record { table = t; field = first + k; value = v }) (last + 1 - first)
 
 abbrev pub values : List Field
@@ -105,8 +106,8 @@ values =
 -- blanks mean 00", "six blanks mean 000000".
 pub record Readings (body : List ℕ) : Type 0 where
   pub flags : (f : ℕ) → (f ≡ 27) ⊎ Within 31 38 f → (is_yes CO f body ≡ true) ↔ (byte_of CO f body ≡ byte_Y)
-  pub digits : (t f n : ℕ) → number_of (bytes_of t f body) ≡ Some n → number_in t f body ≡ n
-  pub blanks : (t f : ℕ) → Blank (bytes_of t f body) → number_in t f body ≡ 0
+  pub digits : (t : Table) (f n : ℕ) → number_of (bytes_of t f body) ≡ Some n → number_in t f body ≡ n
+  pub blanks : (t : Table) (f : ℕ) → Blank (bytes_of t f body) → number_in t f body ≡ 0
 
 -- "railway 0000-9999 (0000 = all railways)"; a railway is asked for by a number 1-9999
 pub record Railways : Type 0 where
@@ -114,8 +115,8 @@ pub record Railways : Type 0 where
   pub asked : (railway : ℕ) → (is_railway railway ≡ true) ↔ Within 1 9999 railway
 
 -- PERIODS. "Both days are inside the period": a record holds a day; two records share one
-abbrev pub InPeriod : ℕ → ℕ → List ℕ → Type 0
+abbrev pub InPeriod : Table → ℕ → List ℕ → Type 0
 InPeriod t day body = (first_day t body ≤ day) × (day ≤ last_day t body)
 
-abbrev pub Share : ℕ → List ℕ → List ℕ → Type 0
+abbrev pub Share : Table → List ℕ → List ℕ → Type 0
 Share t a b = (day : ℕ) × InPeriod t day a × InPeriod t day b

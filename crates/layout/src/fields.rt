@@ -5,7 +5,7 @@ ghost use Rattle.layout.specs.Layout.{CO as inCO, AR as inAR};
 ghost use Rattle.layout.specs.Fields.{field_at, number_in, is_yes, transferor_of, offer_of, railway_of, code_of, code_fits, same_key, first_day, last_day, holds_day, first_shared, last_shared, share_day, grant_in};
 ghost use Rattle.layout.specs.Helpers.{code_span, key_length, key_number};
 
-use super::{AR, CO, ME, RE};
+use super::Table;
 
 // The bytes from a position on, which counts from 1.
 pub fn field(body: &[u8], start: usize, length: usize) -> &[u8]
@@ -50,20 +50,19 @@ pub fn railway(body: &[u8]) -> &[u8]
 #[derive(Clone, Copy)]
 struct Span(usize, usize);
 
-fn code_span(table: u32) -> Span
+fn code_span(table: Table) -> Span
     ensures { result ≡ code_span table }
 {
     match table {
-        CO => Span(0, 0),
-        RE => Span(5, 3),
-        AR => Span(14, 3),
-        ME => Span(0, 0),
-        _ => Span(0, 0),
+        Table::Co => Span(0, 0),
+        Table::Re => Span(5, 3),
+        Table::Ar => Span(14, 3),
+        Table::Me => Span(0, 0),
     }
 }
 
 // The code of a record, nothing where its table has none.
-pub fn code(table: u32, body: &[u8]) -> &[u8]
+pub fn code(table: Table, body: &[u8]) -> &[u8]
     ensures { result.now ≡ code_of table body.now }
 {
     let span = code_span(table);
@@ -71,7 +70,7 @@ pub fn code(table: u32, body: &[u8]) -> &[u8]
 }
 
 // Whether a record has a code, if its table has one.
-pub fn code_fits(table: u32, code: u32, body: &[u8]) -> bool
+pub fn code_fits(table: Table, code: u32, body: &[u8]) -> bool
     ensures { result ≡ code_fits table code body.now }
 {
     let span = code_span(table);
@@ -81,16 +80,15 @@ pub fn code_fits(table: u32, code: u32, body: &[u8]) -> bool
     number_at(body, span.0, span.1) == code
 }
 
-// How many bytes a table's key has, 0 for no table. A `match`, as `length_of`: every pair asks for it.
-fn key_length(table: u32) -> usize
+// How many bytes a table's key has. A `match`, as `length_of`: every pair asks for it.
+fn key_length(table: Table) -> usize
     ensures { result ≡ key_length table }
 {
     match table {
-        CO => 9,
-        RE => 3,
-        AR => 12,
-        ME => 9,
-        _ => 0,
+        Table::Co => 9,
+        Table::Re => 3,
+        Table::Ar => 12,
+        Table::Me => 9,
     }
 }
 
@@ -98,7 +96,7 @@ fn key_length(table: u32) -> usize
 pub const TABLE_STEP: u64 = 1000003;
 
 // Whether two records of a table have the same key. Its fields stand one behind the other, so that they are compared at once.
-pub fn same_key<'a>(table: u32, a: &'a [u8], b: &'a [u8]) -> bool
+pub fn same_key<'a>(table: Table, a: &'a [u8], b: &'a [u8]) -> bool
     ensures { result ≡ same_key table a.now b.now }
 {
     let n = key_length(table);
@@ -106,10 +104,10 @@ pub fn same_key<'a>(table: u32, a: &'a [u8], b: &'a [u8]) -> bool
 }
 
 // One number for a record's table and key.
-pub fn key_number(table: u32, body: &[u8]) -> u64
+pub fn key_number(table: Table, body: &[u8]) -> u64
     ensures { result ≡ key_number table body.now }
 {
-    common::rank(field(body, 5, key_length(table))) + table as u64 * TABLE_STEP
+    common::rank(field(body, 5, key_length(table))) + super::number_of(table) * TABLE_STEP
 }
 
 // The day there, 0 where there is none. Where there are eight bytes they are read without a loop, as their number is known.
@@ -123,51 +121,42 @@ fn day_at(body: &[u8], start: usize) -> u32
     common::number(&s[0..8]).unwrap_or(0)
 }
 
-// The first and the last day of a record's period, 0 for no table: its last 18 bytes are the first day, the version and the last day.
-pub fn first_day(table: u32, body: &[u8]) -> u32
+// The first and the last day of a record's period: its last 18 bytes are the first day, the version and the last day.
+pub fn first_day(table: Table, body: &[u8]) -> u32
     ensures { result ≡ first_day table body.now }
 {
-    if super::TABLES <= table {
-        return 0;
-    }
     day_at(body, super::length_of(table).saturating_sub(17))
 }
 
-pub fn last_day(table: u32, body: &[u8]) -> u32
+pub fn last_day(table: Table, body: &[u8]) -> u32
     ensures { result ≡ last_day table body.now }
 {
-    if super::TABLES <= table {
-        return 0;
-    }
     day_at(body, super::length_of(table).saturating_sub(7))
 }
 
 // Whether a day lies in the period of a record.
-pub fn holds_day(table: u32, body: &[u8], day: u32) -> bool
+pub fn holds_day(table: Table, body: &[u8], day: u32) -> bool
     ensures { result ≡ holds_day table body.now day }
 {
-    if super::TABLES <= table {
-        return false;
-    }
     first_day(table, body) <= day && day <= last_day(table, body)
 }
 
 // The first day that the periods of two records of a table share, if they share any: the later first day.
-pub fn first_shared_day<'a>(table: u32, a: &'a [u8], b: &'a [u8]) -> u32
+pub fn first_shared_day<'a>(table: Table, a: &'a [u8], b: &'a [u8]) -> u32
     ensures { result ≡ first_shared table a.now b.now }
 {
     first_day(table, a).max(first_day(table, b))
 }
 
 // The last: the earlier last day.
-fn last_shared_day<'a>(table: u32, a: &'a [u8], b: &'a [u8]) -> u32
+fn last_shared_day<'a>(table: Table, a: &'a [u8], b: &'a [u8]) -> u32
     ensures { result ≡ last_shared table a.now b.now }
 {
     last_day(table, a).min(last_day(table, b))
 }
 
 // Whether they share any. Mostly one period is over before the other begins, and then the other days are not read.
-pub fn share_day<'a>(table: u32, a: &'a [u8], b: &'a [u8]) -> bool
+pub fn share_day<'a>(table: Table, a: &'a [u8], b: &'a [u8]) -> bool
     ensures { result ≡ share_day table a.now b.now }
 {
     if last_day(table, b) < first_day(table, a) {

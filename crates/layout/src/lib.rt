@@ -2,7 +2,7 @@
 #![tactic(auto)]
 
 ghost use Rattle.std.specs.Prelude.{◌≡◌};
-ghost use Rattle.layout.specs.Layout.{length_of};
+ghost use Rattle.layout.specs.Layout.{table_number, length_of};
 
 pub mod company;
 pub mod dates;
@@ -10,27 +10,36 @@ pub mod fields;
 pub mod rows;
 pub mod rules;
 
-pub const CO: u32 = 0;
+// The tables: conditions, types of discount, additional discounts, memos.
+#[derive(Clone, Copy, PartialEq, Eq)]
+pub enum Table {
+    Co,
+    Re,
+    Ar,
+    Me,
+}
 
-pub const RE: u32 = 1;
+// The number of a table, in the order above.
+pub fn number_of(table: Table) -> u64
+    ensures { result ≡ table_number table }
+{
+    match table {
+        Table::Co => 0,
+        Table::Re => 1,
+        Table::Ar => 2,
+        Table::Me => 3,
+    }
+}
 
-pub const AR: u32 = 2;
-
-pub const ME: u32 = 3;
-
-// How many tables there are; no table has this number.
-pub const TABLES: u32 = 4;
-
-// The length of a table's records without their mark, 0 for no table. A `match`, because a constant array would be built anew at each call,
-// and the searches call this at every step.
-pub fn length_of(table: u32) -> usize
+// The length of a table's records without their mark. A `match`, because a constant array would be built anew at each call, and the
+// searches call this at every step.
+pub fn length_of(table: Table) -> usize
     ensures { result ≡ length_of table }
 {
     match table {
-        CO => 155,
-        RE => 440,
-        AR => 49,
-        ME => 1231,
-        _ => 0,
+        Table::Co => 155,
+        Table::Re => 440,
+        Table::Ar => 49,
+        Table::Me => 1231,
     }
 }

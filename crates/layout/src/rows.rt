@@ -1,13 +1,13 @@
 // THE table of the layout, one row for each field: its number, first position (from 1), length and rule. The record check walks it.
-ghost use Rattle.std.specs.Prelude.{◌≡◌, take, drop, ◌-◌, ◌+◌, eqb};
+ghost use Rattle.std.specs.Prelude.{◌≡◌, take, drop, length, eqb};
 ghost use Rattle.layout.specs.declared.rows.Row.{Row as SpecRow};
-ghost use Rattle.layout.specs.Layout.{layout};
+ghost use Rattle.layout.specs.Layout.{table_at, layout};
 ghost use Rattle.layout.specs.Fields.{row_with};
 ghost use Rattle.layout.specs.Rules.{first_broken};
 ghost use Rattle.layout.specs.Helpers.{first_row, obeys_row};
 
 use super::rules::Rule;
-use super::{AR, CO, ME, RE, fields, rules};
+use super::{Table, fields, rules};
 
 // How many rows there are.
 const ROWS: usize = 57;
@@ -100,30 +100,16 @@ pub fn all() -> [Row; ROWS]
     LAYOUT
 }
 
-// Where the rows of a table start.
-fn first_row(table: u32) -> usize
-    ensures { result ≡ first_row table }
+// The rows of a table among all.
+pub fn of_table(rows: &[Row; ROWS], table: Table) -> &[Row]
+    ensures { result.now ≡ take (length (table_at table).rows) (drop (first_row table) rows.now) }
 {
     match table {
-        CO => 0,
-        RE => 22,
-        AR => 33,
-        ME => 46,
-        _ => ROWS,
+        Table::Co => &rows[0..22],
+        Table::Re => &rows[22..33],
+        Table::Ar => &rows[33..46],
+        Table::Me => &rows[46..57],
     }
-}
-
-// The rows of a table among all.
-pub fn of_table(rows: &[Row; ROWS], table: u32) -> &[Row]
-    ensures { result.now ≡ take (first_row (table + 1) - first_row table) (drop (first_row table) rows.now) }
-{
-    let every = &rows[..];
-    if super::TABLES <= table {
-        return &every[ROWS..ROWS];
-    }
-    let first = first_row(table);
-    let end = first_row(table + 1);
-    &every[first..end]
 }
 
 // The field of the first row that a record breaks, 0 where it keeps them all.

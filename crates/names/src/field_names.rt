@@ -1,35 +1,37 @@
 // The names of tables and fields, as the layout has them.
 use super::words::say;
+use layout::Table;
 use std::io;
 
-pub fn say_mark(rt: &impl Print, table: u32) -> io::Result<()> {
+// The mark of a table, or that it is unknown.
+pub fn say_mark(rt: &impl Print, table: Option<Table>) -> io::Result<()> {
     match table {
-        layout::CO => say(rt, b"CO"),
-        layout::RE => say(rt, b"RE"),
-        layout::AR => say(rt, b"AR"),
-        layout::ME => say(rt, b"ME"),
-        _ => say(rt, b"unknown"),
+        Some(Table::Co) => say(rt, b"CO"),
+        Some(Table::Re) => say(rt, b"RE"),
+        Some(Table::Ar) => say(rt, b"AR"),
+        Some(Table::Me) => say(rt, b"ME"),
+        None => say(rt, b"unknown"),
     }
 }
 
-pub fn say_table(rt: &impl Print, table: u32) -> io::Result<()> {
+pub fn say_table(rt: &impl Print, table: Option<Table>) -> io::Result<()> {
     say_mark(rt, table)?;
     match table {
-        layout::CO => say(rt, b" (conditions)"),
-        layout::RE => say(rt, b" (types of discount)"),
-        layout::AR => say(rt, b" (additional discounts)"),
-        layout::ME => say(rt, b" (memo)"),
-        _ => say(rt, b""),
+        Some(Table::Co) => say(rt, b" (conditions)"),
+        Some(Table::Re) => say(rt, b" (types of discount)"),
+        Some(Table::Ar) => say(rt, b" (additional discounts)"),
+        Some(Table::Me) => say(rt, b" (memo)"),
+        None => say(rt, b""),
     }
 }
 
-pub fn say_field(rt: &impl Print, table: u32, field: u32) -> io::Result<()> {
+pub fn say_field(rt: &impl Print, table: Option<Table>, field: u32) -> io::Result<()> {
     match table {
-        layout::CO => say_co(rt, field),
-        layout::RE => say_re(rt, field),
-        layout::AR => say_ar(rt, field),
-        layout::ME => say_me(rt, field),
-        _ => say(rt, b"unknown"),
+        Some(Table::Co) => say_co(rt, field),
+        Some(Table::Re) => say_re(rt, field),
+        Some(Table::Ar) => say_ar(rt, field),
+        Some(Table::Me) => say_me(rt, field),
+        None => say(rt, b"unknown"),
     }
 }
 

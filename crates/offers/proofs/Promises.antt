@@ -20,7 +20,8 @@ use Rattle.common.specs.Checks.{refuse}
 use Rattle.common.specs.declared.Refusal.{Refusal}
 use Rattle.common.proofs.Lists.{upto_same}
 use Rattle.common.proofs.Tests.{both_true, in_range}
-use Rattle.layout.specs.Layout.{CO, AR, ME, tables, table_at, table_count, length_of}
+use Rattle.layout.specs.Layout.{CO, AR, ME, table_at, length_of}
+use Rattle.layout.specs.declared.Table.{Table}
 use Rattle.layout.specs.Fields.{row_of, bytes_of, of_offers, transferor_of, offer_of, railway_of, first_shared}
 use Rattle.layout.specs.Rules.{keeps_row, keeps_rules}
 use Rattle.layout.specs.Dates.{month_length, is_day}
@@ -133,7 +134,7 @@ pub a_field_keeps_its_rule_by_its_value : (p : Field) → Memᴰ p values → (b
     → (keeps_row p.table body (row_of p.table p.field) ≡ true) ↔ Means p.table p.field body p.value
 a_field_keeps_its_rule_by_its_value = values_hold
 
-pub a_record_keeps_its_rules_by_its_values : (t : ℕ) (body : List ℕ) → t < table_count → length body ≡ length_of t
+pub a_record_keeps_its_rules_by_its_values : (t : Table) (body : List ℕ) → length body ≡ length_of t
     → (keeps_rules t body ≡ true) ↔ ((p : Field) → Memᴰ p values → p.table ≡ t → Means t p.field body p.value)
 a_record_keeps_its_rules_by_its_values = kept_by_its_values
 
@@ -144,13 +145,13 @@ pub the_railways : Railways
 the_railways = railways
 
 -- In every table the transferor, and in every table of offers the offer and the railway, stand where CO has them.
-pub the_transferor_stands_alike : (t : ℕ) (body : List ℕ) → t < table_count → bytes_of t 1 body ≡ transferor_of body
+pub the_transferor_stands_alike : (t : Table) (body : List ℕ) → bytes_of t 1 body ≡ transferor_of body
 the_transferor_stands_alike = transferor_stands
 
-pub the_offer_stands_alike : (t : ℕ) → of_offers t ≡ true → (body : List ℕ) → bytes_of t 2 body ≡ offer_of body
+pub the_offer_stands_alike : (t : Table) → of_offers t ≡ true → (body : List ℕ) → bytes_of t 2 body ≡ offer_of body
 the_offer_stands_alike = offer_stands
 
-pub the_railway_stands_alike : (t : ℕ) → of_offers t ≡ true → (body : List ℕ) → bytes_of t 3 body ≡ railway_of body
+pub the_railway_stands_alike : (t : Table) → of_offers t ≡ true → (body : List ℕ) → bytes_of t 3 body ≡ railway_of body
 the_railway_stands_alike = railway_stands
 
 -- A DAY is a real one of the Gregorian calendar.
@@ -172,22 +173,22 @@ pub at_most_one_record_of_a_key_holds_a_day : (bundle : List ℕ) (R : List Rec)
 at_most_one_record_of_a_key_holds_a_day = one_a_day
 
 -- The first day that two periods share, if they share any, is in both, and no earlier day is.
-pub the_first_day_that_two_periods_share : (t : ℕ) (a b : List ℕ) → Share t a b
+pub the_first_day_that_two_periods_share : (t : Table) (a b : List ℕ) → Share t a b
     → InPeriod t (first_shared t a b) a × InPeriod t (first_shared t a b) b × ((day : ℕ) → InPeriod t day a → InPeriod t day b → first_shared t a b ≤ day)
 the_first_day_that_two_periods_share = first_of_shared
 
 -- So a table whose key is the offer, the railway and its code has one record at most for them, or for 0000, on a day; and a leg uses one at most. Such tables are
 -- CO, AR and ME.
-pub there_is_one_record_for_a_leg : (bundle : List ℕ) (R : List Rec) → Good bundle R → (t : ℕ) → for_legs t ≡ true → (offer code railway day i j : ℕ)
+pub there_is_one_record_for_a_leg : (bundle : List ℕ) (R : List Rec) → Good bundle R → (t : Table) → for_legs t ≡ true → (offer code railway day i j : ℕ)
     → Valid R t offer code railway day i → Valid R t offer code railway day j → i ≡ j
 there_is_one_record_for_a_leg = only_one
 
-pub a_leg_uses_one_record : (bundle : List ℕ) (R : List Rec) → Good bundle R → (t : ℕ) → for_legs t ≡ true → (offer code railway day i j : ℕ)
+pub a_leg_uses_one_record : (bundle : List ℕ) (R : List Rec) → Good bundle R → (t : Table) → for_legs t ≡ true → (offer code railway day i j : ℕ)
     → Uses R t offer code railway day i → Uses R t offer code railway day j → i ≡ j
 a_leg_uses_one_record = uses_one
 
 pub such_are_the_tables_of_offers : (for_legs CO ≡ true) × (for_legs AR ≡ true) × (for_legs ME ≡ true)
-unfolding for_legs of_offers any every table_at tables
+unfolding for_legs of_offers any every table_at
 such_are_the_tables_of_offers = (refl, refl, refl)
 
 -- What was accepted before two records of one key could stand together is accepted still, with as many records; and what is accepted now and repeats no key was.

@@ -1,7 +1,7 @@
 -- DEMAND 3: what is owed after any sequence of sales and cancellations, told from the history alone, by the questions and the fares of its sales. No word,
 -- entry or answer of a book stands in `owed`.
 -- Assumes nothing.
-use Rattle.std.specs.Prelude.{ℕ, ◌+◌, Bool, true, false, cond, not, ◌&&◌, ◌||◌, List, [], ◌∷◌, ◌++◌, eqb, ltb, length, replicate, Result, Ok, Err, is_ok}
+use Rattle.std.specs.Prelude.{ℕ, ◌+◌, Bool, false, cond, not, ◌&&◌, ◌||◌, List, [], ◌∷◌, ◌++◌, eqb, ltb, length, replicate, Result, Ok, Err, is_ok}
 use Rattle.common.specs.Lists.{any}
 use Rattle.common.specs.declared.Refusal.{Refusal}
 use Rattle.fares.specs.Question.{between}

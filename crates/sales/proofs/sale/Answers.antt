@@ -1,6 +1,6 @@
 -- `sales::sale` meets its contract: it writes exactly if the sale is newly booked.
 -- Assumes nothing.
-use Rattle.std.proofs.Common.{sym, ◌∙◌, ap, arith}
+use Rattle.std.proofs.Common.{sym, ◌∙◌, arith}
 use Rattle.std.proofs.lemmas.Result.{err_from_is_err_and}
 use Rattle.book.proofs.SoundBook.{is_sound, fits_word}
 use Rattle.sales.proofs.AnswersByCase.{booked_sound, booked_writes, not_booked_stays, refused_stays}

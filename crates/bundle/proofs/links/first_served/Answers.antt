@@ -10,7 +10,6 @@ use Rattle.common.proofs.Lists.{at_any}
 use Rattle.bundle.specs.Records.{rec, no_rec, between, records_of}
 use Rattle.bundle.specs.Links.{serves}
 use Rattle.bundle.proofs.Here.{Stands, here_start, stands, over_there, over_nil}
-use Rattle.bundle.proofs.PassLaws.{not_wanted}
 use Rattle.bundle.proofs.links.first_served.Goals as goal
 
 pub loop-t-init : goal.loop-t-init
@@ -64,8 +63,8 @@ loop-t-smaller c =
     let w = found in omega (arith, w.starts, w.ends, w.inside)
 
 pub loop-t-preserved : goal.loop-t-preserved
-unfolding any
+unfolding any serves
 loop-t-preserved c =
     let found : Stands c.args.bundle.now c.loop-t.at c.loop-t.invariant.0 c.in-Whole.t c.in-Whole.start c.in-Whole.next = stands _ _ _ c.loop-t.invariant.1 c.step_at-here.ensures c.in-Whole.is in
     let passed : let a = c.args in let p = serves a.link (rec a.table a.r.now) in false ≡ p (rec c.in-Whole.t (between c.in-Whole.start c.in-Whole.next a.bundle.now)) → any p (records_of a.bundle.now) ≡ any p (drop (c.loop-t.invariant.0 + 1) (records_of a.bundle.now)) = λ q. c.loop-t.invariant.2 ∙ rw (found.cons, ← q) in
-    (c.loop-t.invariant.0 + 1, found.then, passed (not_wanted _ _ _ c.if-t-link.false))
+    (c.loop-t.invariant.0 + 1, found.then, passed (rw (sym c.eq.ensures ∙ c.if-eq.false)))

@@ -1,19 +1,14 @@
 -- `layout::fields::holds_day` meets its contract: every table has a period.
 -- Assumes nothing.
 use borrow.Author.Tests.{le-leb, lt-leb}
-use Rattle.common.specs.Lists.{any}
-use Rattle.layout.specs.Fields.{has_period, holds_day}
-use Rattle.layout.proofs.Tables.{no_table_lem, period}
+use Rattle.layout.specs.Fields.{holds_day}
+use Rattle.layout.proofs.Tables.{period}
 use Rattle.layout.proofs.fields.holds_day.Goals as goal
-
-pub returns-then-table-ge-TABLES : goal.returns-then-table-ge-TABLES
-unfolding holds_day has_period any
-returns-then-table-ge-TABLES c = rw (no_table_lem _ c.if-table-ge-TABLES.true)
 
 pub returns-then-first_day-day : goal.returns-then-first_day-day
 unfolding holds_day
-returns-then-first_day-day c = rw ((period _ c.if-table-ge-TABLES.false).has, ← c.first_day.ensures, le-leb _ _ c.if-first_day-day.true, ← c.last_day.ensures)
+returns-then-first_day-day c = rw ((period c.args.table).has, ← c.first_day.ensures, le-leb _ _ c.if-first_day-day.true, ← c.last_day.ensures)
 
 pub returns-else-first_day-day : goal.returns-else-first_day-day
 unfolding holds_day
-returns-else-first_day-day c = rw ((period _ c.if-table-ge-TABLES.false).has, ← c.first_day.ensures, lt-leb _ _ c.if-first_day-day.false)
+returns-else-first_day-day c = rw ((period c.args.table).has, ← c.first_day.ensures, lt-leb _ _ c.if-first_day-day.false)

@@ -3,13 +3,13 @@
 use Prim.Native.Nat.{◌+◌, ◌-◌}
 use mathlib.Core.Path.{◌≡◌}
 use native.Mathlib.Omega.{arith}
-use Rattle.layout.specs.Layout.{table_at, tables}
+use Rattle.layout.specs.Layout.{table_at}
 use Rattle.layout.specs.Fields.{row_with, row_of, byte_of, is_yes}
 use Rattle.layout.proofs.Flags.{flags_stand, no_flag_before, no_flag_behind}
 use Rattle.layout.proofs.fields.is_yes.Goals as goal
 
 pub returns-in-27 : goal.returns-in-27
-unfolding is_yes byte_of row_of row_with table_at tables
+unfolding is_yes byte_of row_of row_with table_at
 returns-in-27 c = rw (c.in-27.is, c.byte_at.ensures)
 
 pub returns-in-31-to-38 : goal.returns-in-31-to-38

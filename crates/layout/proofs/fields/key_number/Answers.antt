@@ -5,4 +5,4 @@ use Rattle.layout.proofs.fields.key_number.Goals as goal
 
 pub returns : goal.returns
 unfolding key_number
-returns c = rw (c.rank.ensures.0, c.field.ensures, c.key_length.ensures)
+returns c = rw (c.rank.ensures.0, c.field.ensures, c.key_length.ensures, c.number_of.ensures)
