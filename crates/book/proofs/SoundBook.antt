@@ -1,6 +1,6 @@
 -- What a sound book and a sound entry have, test by test.
 -- Assumes nothing.
-use Prim.Native.Nat.{ℕ, ◌+◌, ◌-◌, ◌≤◌, ◌<◌}
+use Prim.Native.Nat.{ℕ, zero, suc, ◌+◌, ◌-◌, ◌≤◌, ◌<◌}
 use mathlib.Core.Path.{◌≡◌, refl, sym, ◌∙◌, ap}
 use mathlib.Core.Bool.{true, ◌&&◌}
 use mathlib.Core.Logic.{⊎_elim}
@@ -16,6 +16,7 @@ use Rattle.common.proofs.Lists.{every_at, zero_at, upto_length, upto_at, first_l
 use Rattle.fares.specs.Question.{between, no_leg, legs_of, leg_in_limits, card_slots, cards_differ, limits_of, in_limits}
 use Rattle.fares.proofs.FareLaws.{asked as asked_of}
 use Rattle.book.specs.Words.{Entry, no_entry, capacity, book_length, start_of, count_of, entries, entry_at, leg_of, question_of, question_words}
+use Rattle.book.specs.Status.{number_of_status, status_of}
 use Rattle.book.specs.Sound.{is_zero, number_in_limits, asked_sound, bound_of, is_bounded, entry_sound, numbers_differ, sound_words}
 
 pub record IsSound (w : List ℕ) : Type 0 where
@@ -59,6 +60,14 @@ sound_entry e g =
       live_or_not = every_at (λ b. b) _ g 4 true (omega arith);
       spared = every_at (λ b. b) _ g 5 true (omega arith);
     }
+
+-- the number of its status is the word that it has
+pub status_again : (e : Entry) → entry_sound e ≡ true → number_of_status (status_of e.status) ≡ e.status
+status_again e g = by_word e.status (leb-true e.status 1 (sound_entry e g).live_or_not)
+  where
+    by_word : (word : ℕ) → word ≤ 1 → number_of_status (status_of word) ≡ word
+    by_word zero l = refl
+    by_word (suc n) l = let one : n ≡ 0 = omega (arith, l) in rw one
 
 -- the question of a sound entry, its cards, its leg count and its legs
 asked_tests : (ws : List ℕ) → asked_sound ws ≡ true → let q = question_of ws in (in_limits q ≡ true) × ((cards_differ (card_slots q) && same ws (question_words q)) ≡ true)

@@ -1,4 +1,5 @@
 pub mod Words
+pub mod Status
 pub mod Sound
 pub mod Meaning
 pub mod OneCard

@@ -4,6 +4,7 @@ ghost use Rattle.std.proofs.Math.Seq.{paste};
 ghost use Rattle.book.specs.Words.{capacity, width, book_length, start_of, count_of, booking};
 ghost use Rattle.book.specs.Changes.{added, cancelled_at};
 
+use super::status::Status;
 use super::words::{ASKED, ENTRIES, ENTRY_COUNT, PARTS, STATUS, WIDTH};
 use fares::Question;
 
@@ -39,5 +40,5 @@ pub fn cancel_entry(book: &mut [u32], place: usize)
     ensures { book.new ≡ cancelled_at book.old place }
 {
     let at = ENTRIES + place * WIDTH;
-    book[at + STATUS] = 1;
+    book[at + STATUS] = Status::Cancelled.into();
 }

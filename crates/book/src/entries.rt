@@ -4,6 +4,7 @@ ghost use Rattle.common.specs.Lists.{up_to};
 ghost use Rattle.book.specs.Words.{width, start_of, count_of, entry_words, entry_at, entries};
 ghost use Rattle.book.specs.Sound.{held};
 
+use super::status::Status;
 use super::words::{ASKED, ENTRIES, ENTRY_COUNT, PARTS, SEQUENCE, STATUS, TILL, WIDTH};
 use fares::Question;
 use std::marker::Model;
@@ -25,6 +26,7 @@ impl<'a> Model for Entry<'a> {
 impl Entry<'_> {
     ghost use Rattle.common.specs.Lists.{same};
     ghost use Rattle.book.specs.Words.{question_of, question_words};
+    ghost use Rattle.book.specs.Status.{status_of};
 
     pub fn till(&self) -> u32
         ensures { result ≡ self.now.till }
@@ -61,11 +63,10 @@ impl Entry<'_> {
         *super::words::block(words, PARTS)
     }
 
-    // 0 live, 1 cancelled.
-    pub fn status(&self) -> u32
-        ensures { result ≡ self.now.status }
+    pub fn status(&self) -> Status
+        ensures { result ≡ status_of self.now.status }
     {
-        self.words[STATUS]
+        super::status::status_of(self.words[STATUS])
     }
 }
 

@@ -5,7 +5,9 @@ pub mod changes;
 pub mod entries;
 mod numbers;
 pub mod sound;
+mod status;
 pub mod sums;
 mod words;
 
+pub use status::Status;
 pub use words::CAPACITY;

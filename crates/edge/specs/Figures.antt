@@ -6,6 +6,7 @@ use Rattle.common.specs.Checks.{refuse}
 use Rattle.offers.specs.Answers.{Told, answers, refuses, booked, already_booked}
 use Rattle.fares.specs.Samples.{leg, ticket}
 use Rattle.fares.specs.declared.Question.{Question}
+use Rattle.book.specs.declared.status.Status.TheVariants.{Cancelled}
 use Rattle.sales.specs.declared.Booking.{Booking}
 use Rattle.edge.specs.Replies.{judgement_reply, quote_reply, receipt_reply, sum_reply, tally_reply, no_question, booking_reply}
 
@@ -21,7 +22,7 @@ abbrev pub asked : Question
 asked = ticket 3 [] 2 (leg 1185 1010 ∷ leg 1181 500 ∷ [])
 
 abbrev pub sold : Booking
-sold = record { entry = 3; till = 7; sequence = 12; question = asked; parts = parts; status = 1 }
+sold = record { entry = 3; till = 7; sequence = 12; question = asked; parts = parts; status = Cancelled }
 
 pub record Replies : Type 0 where
   pub no_verdict : judgement_reply (refused 1) ≡ record { number = 7; place = 5; detail = 3; records = 0 }

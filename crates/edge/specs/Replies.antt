@@ -4,6 +4,7 @@ use Rattle.std.specs.Prelude.{ℕ, List, get_or, drop, replicate, Result, Ok, Er
 use Rattle.common.specs.Reasons.{number_of_reason}
 use Rattle.common.specs.declared.Refusal.{Refusal}
 use Rattle.offers.specs.Answers.{Told, answers, refuses}
+use Rattle.book.specs.Status.{number_of_status}
 use Rattle.sales.specs.declared.Booking.{Booking}
 use Rattle.fares.specs.Question.{no_leg}
 use Rattle.fares.specs.declared.Question.{Question}
@@ -89,7 +90,7 @@ booking_reply (Ok b) = record {
   entry = b.entry;
   sequence = b.sequence;
   till = b.till;
-  status = b.status;
+  status = number_of_status b.status;
   question = b.question;
   parts = b.parts;
 }

@@ -139,7 +139,7 @@ fn outcome_values(outcome: Outcome) -> (u32, u32)
 {
     match outcome {
         Outcome::Booked => (BOOKED, 0),
-        Outcome::AlreadyBooked(status) => (ALREADY_BOOKED, status),
+        Outcome::AlreadyBooked(status) => (ALREADY_BOOKED, status.into()),
         Outcome::Cancelled => (CANCELLED, 1),
         Outcome::AlreadyCancelled => (ALREADY_CANCELLED, 1),
     }
@@ -244,7 +244,7 @@ impl From<Result<Booking, Refusal>> for BookingReply {
                     entry: booking.entry as u64,
                     sequence: booking.sequence as u64,
                     till: booking.till,
-                    status: booking.status,
+                    status: booking.status.into(),
                     question,
                     parts,
                 }

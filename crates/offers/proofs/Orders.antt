@@ -2,20 +2,21 @@
 -- Assumes nothing.
 use Prim.Native.Nat.{ℕ}
 use mathlib.Core.Path.{◌≡◌, refl, sym, ◌∙◌, ap, subst}
-use mathlib.Core.Bool.{Bool, true, false, cond}
+use mathlib.Core.Bool.{Bool, true, false, cond, not}
 use mathlib.Core.List.{List, [], ◌∷◌, ◌++◌}
 use native.Mathlib.Omega.{arith}
 use lib.Dec.{eqb, leb}
 use lib.ListN.{length, get_or, replicate}
+use borrow.Author.Tests.{ltb-true, not-false}
 use Rattle.std.specs.Prelude.{Result, Ok, Err}
 use Rattle.common.specs.Reasons.{number_of_reason}
-use Rattle.common.specs.declared.reasons.Reason.TheVariants.{BookFull}
+use Rattle.common.specs.declared.reasons.Reason.TheVariants.{BookUnsound, BookFull}
 use Rattle.common.specs.Lists.{every, any, sum}
-use Rattle.common.specs.Checks.{Finding, clean, fault, Check, check, unless, first_fault, each_from, TellsOf}
+use Rattle.common.specs.Checks.{Finding, clean, fault, Check, check, unless, first_fault, each_from, AllPass, TellsOf}
 use Rattle.common.specs.declared.Refusal.{Refusal}
 use Rattle.common.proofs.Tests.{never}
-use Rattle.common.proofs.Lists.{every_among}
-use Rattle.common.proofs.Checks.{clean_means, means_clean, fault_means, means_fault, append_tells, each_tells, first_among}
+use Rattle.common.proofs.Lists.{every_among, every_at}
+use Rattle.common.proofs.Checks.{one_clean, clean_means, means_clean, fault_means, means_fault, append_tells, each_tells, first_among}
 use Rattle.bundle.specs.Records.{rest_of, records_of}
 use Rattle.bundle.specs.Verdict.{field_checks, end_checks, first_pass, record_checks, second_pass, checks, verdict_of}
 use Rattle.fares.specs.Question.{legs_of}
@@ -24,6 +25,9 @@ use Rattle.fares.specs.Fare.{parts_of, price_checks, fare_checks, quote, priced,
 use Rattle.fares.specs.declared.Question.{Question}
 use Rattle.fares.specs.declared.Quote.{Quote}
 use Rattle.book.specs.Words.{no_entry, capacity, entries}
+use Rattle.book.specs.Status.{number_of_status, status_of}
+use Rattle.book.specs.Sound.{entry_sound, sound_words}
+use Rattle.book.proofs.SoundBook.{is_sound, status_again}
 use Rattle.sales.specs.Sales.{receipt, cancel_receipt, place, is_present, present, sale_checks, sale_answer, cancel_checks, cancel_answer}
 use Rattle.book.specs.Amounts.{of_railway, of_all, balance_of}
 use Rattle.sales.specs.Balances.{balance_checks, total_checks, balance_answer, total_answer}
@@ -57,6 +61,16 @@ module _ {A : Type 0} (n : ℕ) (values : A → List ℕ) (a : A) where
         passing_answers = λ p. rw (means_clean cs p);
       }
 
+-- the values need only be the same where every check passes
+told_as : {t : Told} {cs : List Check} {n : ℕ} {us vs : List ℕ} → Follows t cs n us → (AllPass cs → us ≡ vs) → Follows t cs n vs
+told_as f same =
+    record {
+      refused_by = f.refused_by;
+      first_refuses = f.first_refuses;
+      answered_if = λ ws h. let r = f.answered_if ws h in (r.0, r.1 ∙ same r.0);
+      passing_answers = λ p. f.passing_answers p ∙ ap answers (same p);
+    }
+
 module _ (s : List ℕ) where
   pub verdict_follows : Follows (verdict_tells (verdict_of s)) (checks s) 1 (length (records_of s) ∷ [])
   unfolding verdict_of
@@ -88,20 +102,30 @@ module _ (w : List ℕ) where
   find_follows t s = follows booking_width booking_values (booking_at (place w t s) (present w t s)) (cancel_checks w t s)
 
   module _ (t s : ℕ) where
-    values_sold : (b : Bool) (again first : List ℕ) → let status = (present w t s).status in
-        receipt_values (cond b (receipt (AlreadyBooked status) again) (receipt Booked first)) ≡ cond b (already_booked ∷ status ∷ again) (booked ∷ 0 ∷ first)
+    -- where no check fails the book is sound, and a sale in it has its entry's word for a status
+    values_sold : (b : Bool) (again first : List ℕ) → let word = (present w t s).status in
+        (b ≡ true → number_of_status (status_of word) ≡ word)
+        → receipt_values (cond b (receipt (AlreadyBooked (status_of word)) again) (receipt Booked first)) ≡ cond b (already_booked ∷ word ∷ again) (booked ∷ 0 ∷ first)
     unfolding outcome_values
-    values_sold true again first = refl
-    values_sold false again first = refl
+    values_sold true again first e = ap (λ k. already_booked ∷ k ∷ again) (e refl)
+    values_sold false again first e = refl
+
+    its_word : (b : List ℕ) (q : Question) → AllPass (sale_checks w t s b q) → is_present w t s ≡ true
+        → let word = (present w t s).status in number_of_status (status_of word) ≡ word
+    unfolding sale_checks
+    its_word b q p l =
+        let x = (one_clean (not (sound_words w)) BookUnsound 0 0 _ (means_clean _ p)).0 in
+        let good = (is_sound w (not-false (sound_words w) x)).good in
+        status_again (present w t s) (every_at entry_sound (entries w) good (place w t s) no_entry (ltb-true _ _ l))
 
     pub sale_follows : (b : List ℕ) (q : Question) → Follows (receipt_tells (sale_answer w t s b q)) (sale_checks w t s b q) 10
         (cond (is_present w t s) (already_booked ∷ (present w t s).status ∷ (present w t s).parts) (booked ∷ 0 ∷ parts_of (records_of b) q))
     unfolding sale_answer
     sale_follows b q =
-        let r = cond (is_present w t s) (receipt (AlreadyBooked (present w t s).status) (present w t s).parts) (receipt Booked (parts_of (records_of b) q)) in
-        subst (Follows (receipt_tells (unless (first_fault (sale_checks w t s b q)) r)) (sale_checks w t s b q) 10)
-        (values_sold (is_present w t s) (present w t s).parts (parts_of (records_of b) q))
-        (follows 10 receipt_values r (sale_checks w t s b q))
+        let parts = parts_of (records_of b) q in
+        let r = cond (is_present w t s) (receipt (AlreadyBooked (status_of (present w t s).status)) (present w t s).parts) (receipt Booked parts) in
+        told_as (follows 10 receipt_values r (sale_checks w t s b q))
+        (λ p. values_sold (is_present w t s) (present w t s).parts parts (its_word b q p))
 
     values_cancelled : (b : Bool) (parts : List ℕ)
         → receipt_values (receipt (cond b Cancelled AlreadyCancelled) parts) ≡ cond b cancelled already_cancelled ∷ 1 ∷ parts

@@ -73,6 +73,8 @@ use Rattle.fares.proofs.OneCard.{fare_is}
 use Rattle.fares.proofs.CardOrder.{any_order}
 use Rattle.fares.proofs.Computed.{fare_figures_hold}
 use Rattle.book.specs.Words.{Entry, cards_at, count_of, entry_at, entries, question_of}
+use Rattle.book.specs.Status.{number_of_status}
+use Rattle.book.specs.declared.status.Status.TheVariants as status
 use Rattle.book.specs.Due.{carried_by, any_leg, due_in}
 use Rattle.book.specs.Meaning.{asked_word, cards_in, Sound, Holds, HeldNowhere}
 use Rattle.book.specs.Places.{given, Places, Says, Kept}
@@ -90,7 +92,7 @@ use Rattle.sales.specs.Balances.{balance_answer, total_answer}
 use Rattle.sales.specs.OneCard.{OneCardOps, base_after, base_sale, base_sale_words, base_cancel, base_cancel_words, base_balance, base_total}
 use Rattle.sales.specs.History.{Number, Op, sale, empty_book, after, cancelled_in, booked_by, owed, is_in, is_number}
 use Rattle.sales.proofs.BalanceIsOwed.{stays_sound, balance_told, total_told}
-use Rattle.sales.proofs.InAnyBook.{book_balance, no_railway, book_total, sale_without_number, cancel_without_number, same_sale, other_sale, known_cancel, unknown_cancel, sale_when_full, sale_booked, sale_refused}
+use Rattle.sales.proofs.InAnyBook.{book_balance, no_railway, book_total, sale_without_number, cancel_without_number, status_at, same_sale, other_sale, known_cancel, unknown_cancel, sale_when_full, sale_booked, sale_refused}
 use Rattle.sales.specs.declared.Receipt.{Receipt}
 use Rattle.sales.specs.declared.Outcome.TheVariants.{Cancelled, AlreadyCancelled}
 use Rattle.sales.specs.Figures.{Day}
@@ -430,7 +432,7 @@ module _ (book : List ℕ) (sound : Sound book) (n : Number) where
     pub a_sale_in_the_book_is_told : (bundle : List ℕ) (q : Question) → SameQuestion (question_of entry.asked) q
         → receipt_tells (sale_answer book n.till n.sequence bundle q) ≡ answers (already_booked ∷ entry.status ∷ entry.parts)
     unfolding tells_values outcome_values
-    a_sale_in_the_book_is_told bundle q e = rw (same_sale book sound n number i inside held bundle q e)
+    a_sale_in_the_book_is_told bundle q e = rw (same_sale book sound n number i inside held bundle q e, status_at book sound i inside)
 
     pub its_number_is_not_used_again : (bundle : List ℕ) (q : Question) → (SameQuestion (question_of entry.asked) q → ⊥)
         → receipt_tells (sale_answer book n.till n.sequence bundle q) ≡ refuses (refuse NumberTaken i 0) (replicate 10 0)
@@ -525,7 +527,11 @@ module _ (first : List Op) (n : Number) (bundle : List ℕ) (q : Question) (more
   unfolding tells_values outcome_values
   sent_again_is_told_its_first_amounts bundle' q' e =
       let b = told_booked _ parts sold in
-      rw (told_first first n bundle q more b.1 b.2 bundle' q' e) (ap (λ x. answers (already_booked ∷ cond (cancelled_in n more) 1 0 ∷ x)) (first_parts _ _ _ bundle q parts sold))
+      rw (told_first first n bundle q more b.1 b.2 bundle' q' e, number_told (cancelled_in n more)) (ap (λ x. answers (already_booked ∷ cond (cancelled_in n more) 1 0 ∷ x)) (first_parts _ _ _ bundle q parts sold))
+    where
+      number_told : (c : Bool) → number_of_status (cond c status.Cancelled status.Live) ≡ cond c 1 0
+      number_told true = refl
+      number_told false = refl
 
   pub another_question_is_refused : (bundle' : List ℕ) (q' : Question) → (SameQuestion q q' → ⊥)
       → receipt_tells (sale_answer now n.till n.sequence bundle' q') ≡ refuses (refuse NumberTaken (length (booked_by [] first)) 0) (replicate 10 0)

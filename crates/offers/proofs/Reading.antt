@@ -1,7 +1,7 @@
 -- THE PROMISES of the calls that read a book: how many sales it has, the sale at an entry, and the sale of a number.
 -- Assumes nothing.
 use Prim.Native.Nat.{ℕ, ◌≤◌, ◌<◌}
-use mathlib.Core.Path.{◌≡◌, refl, sym, ◌∙◌}
+use mathlib.Core.Path.{◌≡◌, refl, sym, ◌∙◌, ap}
 use mathlib.Core.Bool.{true, false}
 use mathlib.Core.List.{List, [], ◌∷◌, ◌++◌}
 use lib.ListN.{length, get_or, replicate}
@@ -10,7 +10,8 @@ use Rattle.common.specs.declared.reasons.Reason.{Reason}
 use Rattle.common.specs.declared.reasons.Reason.TheVariants.{BookUnsound, NumberOutside, SaleUnknown}
 use Rattle.common.specs.Checks.{refuse}
 use Rattle.fares.specs.declared.Question.{Question}
-use Rattle.book.specs.Words.{count_of, entry_at}
+use Rattle.book.specs.Words.{count_of, entry_at, question_of}
+use Rattle.book.specs.Status.{number_of_status}
 use Rattle.book.specs.Meaning.{Sound, Holds, HeldNowhere}
 use Rattle.book.specs.SameQuestion.{SameQuestion}
 use Rattle.sales.specs.Sales.{sale_answer}
@@ -18,10 +19,10 @@ use Rattle.sales.specs.Reading.{booking_at, count_answer, entry_answer, find_ans
 use Rattle.sales.specs.declared.Booking.{Booking}
 use Rattle.sales.specs.History.{Number, no_number, Op, sale, empty_book, after, cancelled_in, booked_by, is_in, is_number}
 use Rattle.sales.proofs.Unsound.{unsound_count, unsound_entry, unsound_find}
-use Rattle.sales.proofs.InAnyBook.{book_count, sale_at, no_sale_at, find_without_number, same_sale, known_find, unknown_find}
+use Rattle.sales.proofs.InAnyBook.{book_count, sale_at, status_at, no_sale_at, find_without_number, same_sale, known_find, unknown_find}
 use Rattle.sales.proofs.SentFirst.{count_is_told, number_is_told, nothing_behind, unknown_is_not_found}
 use Rattle.sales.proofs.SentAgain.{found_again, listed_again}
-use Rattle.offers.specs.Answers.{Told, answers, refuses, tells_values, booked, already_booked, outcome_values, receipt_tells, tally_tells, booking_values, booking_width, booking_tells}
+use Rattle.offers.specs.Answers.{Told, answers, refuses, tells_values, booked, already_booked, outcome_values, receipt_tells, tally_tells, question_values, booking_values, booking_width, booking_tells}
 use Rattle.offers.proofs.Orders.{told_booked, first_parts}
 
 -- refused, with every value zero
@@ -52,6 +53,13 @@ module _ (book : List ℕ) (sound : Sound book) where
   unfolding tells_values
   an_entry_is_listed i l = rw (sale_at book sound i l)
 
+  -- What a listing and a find tell of an entry: its place, its number, its status by the number that is its word, what was asked, and its parts.
+  pub an_entry_is_told_by_its_words : (i : ℕ) → i < count_of book → let e = entry_at book i in
+      booking_values (booking_at i e) ≡ i ∷ e.till ∷ e.sequence ∷ e.status ∷ (question_values (question_of e.asked) ++ e.parts)
+  an_entry_is_told_by_its_words i l =
+      let e = entry_at book i in
+      ap (λ word. i ∷ e.till ∷ e.sequence ∷ word ∷ (question_values (question_of e.asked) ++ e.parts)) (status_at book sound i l)
+
   pub nothing_is_listed_behind_the_entries : (i : ℕ) → count_of book ≤ i → booking_tells (entry_answer book i) ≡ no_sale SaleUnknown
   unfolding tells_values
   nothing_is_listed_behind_the_entries i l = rw (no_sale_at book sound i l)
@@ -73,7 +81,7 @@ module _ (book : List ℕ) (sound : Sound book) where
       what_an_entry_holds_is_found = rw (known_find book sound n number i inside held)
 
       pub what_is_found_is_told_again : (bundle : List ℕ) (found : Booking) → find_answer book n.till n.sequence ≡ Ok found
-          → receipt_tells (sale_answer book n.till n.sequence bundle found.question) ≡ answers (already_booked ∷ found.status ∷ found.parts)
+          → receipt_tells (sale_answer book n.till n.sequence bundle found.question) ≡ answers (already_booked ∷ number_of_status found.status ∷ found.parts)
       unfolding tells_values outcome_values
       what_is_found_is_told_again bundle found e =
           let x : booking_at i (entry_at book i) ≡ found = let h = sym (known_find book sound n number i inside held) ∙ e in cc in

@@ -7,6 +7,7 @@ use Rattle.common.specs.declared.Refusal.{Refusal}
 use Rattle.fares.specs.declared.Leg.{Leg}
 use Rattle.fares.specs.declared.Question.{Question}
 use Rattle.fares.specs.declared.Quote.{Quote}
+use Rattle.book.specs.Status.{number_of_status}
 use Rattle.sales.specs.declared.Outcome.{Outcome}
 use Rattle.sales.specs.declared.Outcome.TheVariants.{Booked, AlreadyBooked, Cancelled, AlreadyCancelled}
 use Rattle.sales.specs.declared.Receipt.{Receipt}
@@ -54,7 +55,7 @@ already_cancelled = 4
 
 unfoldable pub outcome_values : Outcome → List ℕ → List ℕ
 outcome_values Booked parts = booked ∷ 0 ∷ parts
-outcome_values (AlreadyBooked status) parts = already_booked ∷ status ∷ parts
+outcome_values (AlreadyBooked status) parts = already_booked ∷ number_of_status status ∷ parts
 outcome_values Cancelled parts = cancelled ∷ 1 ∷ parts
 outcome_values AlreadyCancelled parts = already_cancelled ∷ 1 ∷ parts
 
@@ -80,7 +81,7 @@ abbrev pub question_values : Question → List ℕ
 question_values q = q.offer ∷ q.day ∷ q.persons ∷ (q.cards ++ (q.count ∷ flat_map leg_values q.legs))
 
 abbrev pub booking_values : Booking → List ℕ
-booking_values r = r.entry ∷ r.till ∷ r.sequence ∷ r.status ∷ (question_values r.question ++ r.parts)
+booking_values r = r.entry ∷ r.till ∷ r.sequence ∷ number_of_status r.status ∷ (question_values r.question ++ r.parts)
 
 abbrev pub booking_width : ℕ
 booking_width = 36

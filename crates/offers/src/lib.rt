@@ -51,7 +51,8 @@ pub use fares::{Leg, Question, Quote};
 // What a sale or a cancellation answers: what came of it and the sale's parts.
 pub use sales::{Outcome, Receipt};
 
-// What is read of a book: a sale as it has it.
+// What is read of a book: a sale as it has it, and whether it is cancelled.
+pub use book::Status;
 pub use sales::Booking;
 
 // Judges a bundle of any length: how many records it has, or the first fault.

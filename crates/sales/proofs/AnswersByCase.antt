@@ -21,6 +21,7 @@ use Rattle.fares.specs.Fare.{parts_of, fare_checks, priced, quoted, fare_of}
 use Rattle.fares.specs.declared.Question.{Question}
 use Rattle.fares.specs.declared.Quote.{Quote}
 use Rattle.book.specs.Words.{Entry, width, start_of, entry_at, capacity, count_of, entries, question_words, booking}
+use Rattle.book.specs.Status.{status_of}
 use Rattle.book.specs.Sound.{number_in_limits, held, sound_words}
 use Rattle.sales.specs.Sales.{receipt, cancel_receipt, is_clean, place, is_present, present, sale_checks, sale_answer, is_booked, sale_words, cancel_checks, cancel_answer, is_cancelled, cancel_words}
 use Rattle.sales.specs.declared.Outcome.TheVariants.{Booked, AlreadyBooked, Cancelled, AlreadyCancelled}
@@ -77,7 +78,7 @@ module _ (w : List ℕ) (t s : ℕ) where
         unfolding sale_answer sale_checks first_fault again_answer
         present_again l =
             rw (ok, n, l)
-            (by_question (same (present w t s).asked (question_words q)) (place w t s) (receipt (AlreadyBooked (present w t s).status) (present w t s).parts))
+            (by_question (same (present w t s).asked (question_words q)) (place w t s) (receipt (AlreadyBooked (status_of (present w t s).status)) (present w t s).parts))
 
         pub sale_again : {i : ℕ} → held t s (entries w) ≡ Some i → sale_answer w t s b q ≡ again_answer (entry_at w i) i q
         sale_again h =
@@ -196,7 +197,7 @@ module _ (e : Entry) (i : ℕ) (q : Question) where
   unfolding again_answer
   again_other d = rw d
 
-  pub again_same : same e.asked (question_words q) ≡ true → again_answer e i q ≡ Ok (receipt (AlreadyBooked e.status) e.parts)
+  pub again_same : same e.asked (question_words q) ≡ true → again_answer e i q ≡ Ok (receipt (AlreadyBooked (status_of e.status)) e.parts)
   unfolding again_answer
   again_same d = rw d
 
@@ -206,7 +207,7 @@ module _ (w : List ℕ) (t s : ℕ) (b : List ℕ) (q : Question) where
   found = first_fault (sale_checks w t s b q)
 
   abbrev there : Receipt
-  there = receipt (AlreadyBooked (present w t s).status) (present w t s).parts
+  there = receipt (AlreadyBooked (status_of (present w t s).status)) (present w t s).parts
 
   abbrev fresh : Receipt
   fresh = receipt Booked (parts_of (records_of b) q)

@@ -29,6 +29,8 @@ use Rattle.fares.specs.Legs.{cards_for, persons_fit, unread, part_by}
 use Rattle.fares.specs.Fare.{parts_of, price_checks, fare_checks, priced, fare_of}
 use Rattle.book.specs.Due.{due_from, carried_by, any_leg}
 use Rattle.book.specs.SameQuestion.{SameQuestion}
+use Rattle.book.specs.declared.status.Status.{Status}
+use Rattle.book.specs.declared.status.Status.TheVariants as status
 use Rattle.sales.specs.Sales.{receipt, sale_answer}
 use Rattle.sales.specs.History.{Op, cancel, empty_book, after, cancelled_in, booked_by, books, owed}
 use Rattle.sales.specs.Figures.{number, bundle, asked, parts, sold, Owes, Sells, Day}
@@ -59,7 +61,7 @@ same_asked : SameQuestion asked asked
 same_asked = record { offer = refl; day = refl; persons = refl; cards = λ k l. refl; count = refl; railways = λ k l. refl; fares = λ k l. refl }
 
 module _ (more : List Op) where
-  again : (status : ℕ) → sale_answer (after empty_book (sold ∷ more)) 1 1 bundle asked ≡ Ok (receipt (AlreadyBooked status) (parts_of (records_of bundle) asked)) → Sells (sold ∷ more) (AlreadyBooked status)
+  again : (status : Status) → sale_answer (after empty_book (sold ∷ more)) 1 1 bundle asked ≡ Ok (receipt (AlreadyBooked status) (parts_of (records_of bundle) asked)) → Sells (sold ∷ more) (AlreadyBooked status)
   again status e = e ∙ ap (λ x. Ok (receipt (AlreadyBooked status) x)) priced_parts.1
 
 pub the_day : Day
@@ -68,10 +70,10 @@ the_day =
     record {
       sale_first = first_booked;
       owes_first = owed_then (sold ∷ []) refl refl refl;
-      sent_again = again [] 0 (told_first [] number bundle asked [] first_booked refl bundle asked same_asked);
+      sent_again = again [] status.Live (told_first [] number bundle asked [] first_booked refl bundle asked same_asked);
       owes_again = owed_then (sold ∷ sold ∷ []) refl refl refl;
       is_cancelled_lem = cancel_told [] number bundle asked (sold ∷ []) first_booked refl ∙ ap (λ x. Ok (receipt Cancelled x)) priced_parts.1;
       owes_nothing = owed_then (sold ∷ sold ∷ cancel number ∷ []) refl refl refl;
-      sent_late = again (sold ∷ cancel number ∷ []) 1 (told_first [] number bundle asked (sold ∷ cancel number ∷ []) first_booked refl bundle asked same_asked);
+      sent_late = again (sold ∷ cancel number ∷ []) status.Cancelled (told_first [] number bundle asked (sold ∷ cancel number ∷ []) first_booked refl bundle asked same_asked);
       owes_still_nothing = owed_then (sold ∷ sold ∷ cancel number ∷ sold ∷ []) refl refl refl;
     }

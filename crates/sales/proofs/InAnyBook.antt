@@ -20,6 +20,7 @@ use Rattle.fares.specs.Fare.{fare_of}
 use Rattle.fares.specs.declared.Question.{Question}
 use Rattle.fares.specs.declared.Quote.{Quote}
 use Rattle.book.specs.Words.{Entry, no_entry, count_of, entries, entry_at, question_of, question_words}
+use Rattle.book.specs.Status.{number_of_status, status_of}
 use Rattle.book.specs.Sound.{entry_sound}
 use Rattle.book.specs.Meaning.{Within, Sound, Holds, HeldNowhere}
 use Rattle.book.specs.Due.{carried_by, any_leg, due_in}
@@ -29,7 +30,7 @@ use Rattle.book.proofs.BookMeaning.{means_sound}
 use Rattle.book.proofs.ComparedWords.{same_words, other_words}
 use Rattle.book.proofs.NumbersDiffer.{has_number_lem, held_here}
 use Rattle.book.proofs.QuestionWords.{asked_again}
-use Rattle.book.proofs.SoundBook.{IsSound, is_sound, sound_entry, few_legs, entry_is, entries_length}
+use Rattle.book.proofs.SoundBook.{IsSound, is_sound, sound_entry, status_again, few_legs, entry_is, entries_length}
 use Rattle.sales.specs.Sales.{receipt, cancel_receipt, place, is_present, present, sale_answer, cancel_answer}
 use Rattle.sales.specs.Reading.{booking_at, count_answer, entry_answer, find_answer}
 use Rattle.sales.specs.declared.Outcome.TheVariants.{Booked, AlreadyBooked}
@@ -65,6 +66,13 @@ module _ (book : List ℕ) (sound : Sound book) where
   pub sale_at : (i : ℕ) → i < count_of book → entry_answer book i ≡ Ok (booking_at i (entry_at book i))
   unfolding entry_answer first_fault
   sale_at i l = rw (means_sound book sound, entries_length book, lt-ltb i (count_of book) l) (ap (λ e. Ok (booking_at i e)) (entry_is book i l))
+
+  -- the number of its status is the word that the entry has
+  pub status_at : (i : ℕ) → i < count_of book → number_of_status (status_of (entry_at book i).status) ≡ (entry_at book i).status
+  status_at i l =
+      let good = (is_sound book (means_sound book sound)).good in
+      let inside : i < length (entries book) = rw (entries_length book) l in
+      status_again (entry_at book i) (rw (entry_is book i l) at (every_at entry_sound (entries book) good i no_entry inside))
 
   pub no_sale_at : (i : ℕ) → count_of book ≤ i → entry_answer book i ≡ Err (refuse SaleUnknown 0 0)
   unfolding entry_answer first_fault
@@ -117,7 +125,7 @@ module _ (book : List ℕ) (sound : Sound book) (n : Number) where
           present_again book t u bundle q (means_sound book sound) number there.0 ∙ ap₂ (λ x k. again_answer x k q) the_entry there.1
 
       pub same_sale : (bundle : List ℕ) (q : Question) → SameQuestion (question_of entry.asked) q
-          → sale_answer book t u bundle q ≡ Ok (receipt (AlreadyBooked entry.status) entry.parts)
+          → sale_answer book t u bundle q ≡ Ok (receipt (AlreadyBooked (status_of entry.status)) entry.parts)
       same_sale bundle q e =
           sent_again bundle q ∙ again_same entry i q (ap (λ ws. same ws (question_words q)) (sym asked_words) ∙ same_words (question_of entry.asked) q e)
 

@@ -20,6 +20,8 @@ use Rattle.bundle.specs.Records.{records_of}
 use Rattle.fares.specs.Fare.{parts_of}
 use Rattle.fares.specs.declared.Question.{Question}
 use Rattle.book.specs.Words.{Entry, no_entry, count_of, entries, entry_at, question_of, question_words, booking}
+use Rattle.book.specs.Status.{status_of}
+use Rattle.book.specs.declared.status.Status.TheVariants as status
 use Rattle.book.specs.Sound.{has_number}
 use Rattle.book.specs.SameQuestion.{SameQuestion}
 use Rattle.book.specs.Meaning.{Sound, Holds}
@@ -171,14 +173,14 @@ module _ (first : List Op) (n : Number) (b : List ℕ) (q : Question) (more : Li
     asked_is true = refl
     asked_is false = refl
 
-    kept : (c : Bool) → receipt (AlreadyBooked (cond c (cancelled_entry entry) entry).status) (cond c (cancelled_entry entry) entry).parts
-        ≡ receipt (AlreadyBooked (cond c 1 0)) (parts_of (records_of b) q)
+    kept : (c : Bool) → receipt (AlreadyBooked (status_of (cond c (cancelled_entry entry) entry).status)) (cond c (cancelled_entry entry) entry).parts
+        ≡ receipt (AlreadyBooked (cond c status.Cancelled status.Live)) (parts_of (records_of b) q)
     kept true = refl
     kept false = refl
 
     -- told its first parts and its status if the question is the same,
     pub told_first : (b' : List ℕ) (q' : Question) → SameQuestion q q'
-        → sale_answer now n.till n.sequence b' q' ≡ Ok (receipt (AlreadyBooked (cond (cancelled_in n more) 1 0)) (parts_of (records_of b) q))
+        → sale_answer now n.till n.sequence b' q' ≡ Ok (receipt (AlreadyBooked (cond (cancelled_in n more) status.Cancelled status.Live)) (parts_of (records_of b) q))
     told_first b' q' h =
         answered b' q'
         ∙ again_same (later entry more) i q' (ap (λ x. same x (question_words q')) (asked_is (cancelled_in n more)) ∙ same_words q q' h)

@@ -6,6 +6,7 @@ use Rattle.layout.specs.Bytes.{byte_N}
 use Rattle.bundle.specs.Samples.{grant, conditions}
 use Rattle.fares.specs.Samples.{leg, ticket}
 use Rattle.fares.specs.declared.Question.{Question}
+use Rattle.book.specs.declared.status.Status.TheVariants as status
 use Rattle.sales.specs.Sales.{receipt, sale_answer, cancel_answer}
 use Rattle.sales.specs.Balances.{balance_answer, total_answer}
 use Rattle.sales.specs.History.{Number, Op, sale, cancel, empty_book, after}
@@ -45,9 +46,9 @@ Cancels ops outcome = cancel_answer (after empty_book ops) 1 1 ≡ Ok (receipt o
 pub record Day : Type 0 where
   pub sale_first : Sells [] Booked
   pub owes_first : Owes (sold ∷ []) 2274 1500 3774
-  pub sent_again : Sells (sold ∷ []) (AlreadyBooked 0)
+  pub sent_again : Sells (sold ∷ []) (AlreadyBooked status.Live)
   pub owes_again : Owes (sold ∷ sold ∷ []) 2274 1500 3774
   pub is_cancelled_lem : Cancels (sold ∷ sold ∷ []) Cancelled
   pub owes_nothing : Owes (sold ∷ sold ∷ cancel number ∷ []) 0 0 0
-  pub sent_late : Sells (sold ∷ sold ∷ cancel number ∷ []) (AlreadyBooked 1)
+  pub sent_late : Sells (sold ∷ sold ∷ cancel number ∷ []) (AlreadyBooked status.Cancelled)
   pub owes_still_nothing : Owes (sold ∷ sold ∷ cancel number ∷ sold ∷ []) 0 0 0

@@ -8,6 +8,8 @@ use Rattle.common.specs.declared.Refusal.{Refusal}
 use Rattle.fares.specs.Question.{no_leg}
 use Rattle.fares.specs.declared.Question.{Question}
 use Rattle.book.specs.Words.{Entry, no_entry, entries, question_of}
+use Rattle.book.specs.Status.{status_of}
+use Rattle.book.specs.declared.status.Status.TheVariants.{Live, Cancelled}
 use Rattle.book.specs.Sound.{sound_words}
 use Rattle.book.specs.SameQuestion.{SameQuestion}
 use Rattle.sales.specs.Sales.{place, present, cancel_checks}
@@ -17,7 +19,7 @@ use Rattle.sales.specs.declared.Booking.{Booking}
 -- the sale that entry i is: its number, its question, its parts and its status
 abbrev pub booking_at : ℕ → Entry → Booking
 booking_at i e =
-    record { entry = i; till = e.till; sequence = e.sequence; question = question_of e.asked; parts = e.parts; status = e.status }
+    record { entry = i; till = e.till; sequence = e.sequence; question = question_of e.asked; parts = e.parts; status = status_of e.status }
 
 -- COUNT: 21
 abbrev pub count_checks : List ℕ → List Check
@@ -47,4 +49,4 @@ pub record IsSale (r : Result Booking Refusal) (i : ℕ) (n : Number) (q : Quest
   pub question : SameQuestion q sale.question
   pub unused : (k : ℕ) → q.count ≤ k → get_or sale.question.legs k no_leg ≡ no_leg
   pub amounts : sale.parts ≡ parts
-  pub status : sale.status ≡ cond cancelled 1 0
+  pub status : sale.status ≡ cond cancelled Cancelled Live

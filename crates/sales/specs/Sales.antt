@@ -9,6 +9,7 @@ use Rattle.bundle.specs.Records.{records_of}
 use Rattle.fares.specs.Fare.{parts_of, fare_checks}
 use Rattle.fares.specs.declared.Question.{Question}
 use Rattle.book.specs.Words.{Entry, no_entry, capacity, entries, question_words, booking}
+use Rattle.book.specs.Status.{status_of}
 use Rattle.book.specs.Changes.{added, cancelled_at}
 use Rattle.book.specs.Sound.{number_in_limits, held_at, sound_words}
 use Rattle.sales.specs.declared.Outcome.{Outcome}
@@ -54,7 +55,7 @@ module _ (book : List ℕ) (till sequence : ℕ) where
   abbrev pub sale_answer_by : List Check → List ℕ → Result Receipt Refusal
   sale_answer_by checks parts =
       unless (first_fault checks)
-      (cond is_present (receipt (AlreadyBooked present.status) present.parts) (receipt Booked parts))
+      (cond is_present (receipt (AlreadyBooked (status_of present.status)) present.parts) (receipt Booked parts))
 
   unfoldable pub sale_answer : List ℕ → Question → Result Receipt Refusal
   sale_answer bundle q = sale_answer_by (sale_checks bundle q) (parts_of (records_of bundle) q)

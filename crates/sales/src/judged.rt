@@ -5,6 +5,7 @@ ghost use Rattle.sales.specs.Helpers.{again_answer, first_answer};
 
 use super::reading::look_up;
 use super::{Outcome, Receipt};
+use book::Status;
 use book::entries::Entry;
 use common::{Reason, Refusal};
 use fares::Question;
@@ -71,15 +72,12 @@ pub fn judge_cancel(book: &[u32], till: u32, sequence: u64) -> Result<Receipt, R
 fn cancelled(entry: &Entry) -> Receipt
     ensures { result ≡ cancel_receipt entry.now }
 {
-    let parts = entry.parts();
-    if entry.status() == 0 {
-        return Receipt {
-            outcome: Outcome::Cancelled,
-            parts,
-        };
-    }
+    let outcome = match entry.status() {
+        Status::Live => Outcome::Cancelled,
+        Status::Cancelled => Outcome::AlreadyCancelled,
+    };
     Receipt {
-        outcome: Outcome::AlreadyCancelled,
-        parts,
+        outcome,
+        parts: entry.parts(),
     }
 }

@@ -8,13 +8,14 @@ ghost use Rattle.sales.specs.Balances.{balance_answer, total_answer};
 mod judged;
 pub mod reading;
 
+use book::Status;
 use common::{Reason, Refusal};
 
-// What came of a sale or a cancellation that is not refused; `AlreadyBooked` has the status of the entry, 1 if it is cancelled.
+// What came of a sale or a cancellation that is not refused; `AlreadyBooked` has the status of the entry.
 #[derive(Clone, Copy)]
 pub enum Outcome {
     Booked,
-    AlreadyBooked(u32),
+    AlreadyBooked(Status),
     Cancelled,
     AlreadyCancelled,
 }
@@ -26,7 +27,7 @@ pub struct Receipt {
     pub parts: [u32; 8],
 }
 
-// A sale as a book has it: which entry it is, its number, what was asked, the parts as first priced, and the status, 1 if it is cancelled.
+// A sale as a book has it: which entry it is, its number, what was asked, the parts as first priced, and the status.
 #[derive(Clone, Copy)]
 pub struct Booking {
     pub entry: usize,
@@ -34,7 +35,7 @@ pub struct Booking {
     pub sequence: u32,
     pub question: fares::Question,
     pub parts: [u32; 8],
-    pub status: u32,
+    pub status: Status,
 }
 
 // Books a sale, if its number is new and it can be priced.

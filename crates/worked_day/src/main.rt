@@ -2,7 +2,7 @@
 // two cards, sent again with the cards the other way round.
 #![tactic(auto)]
 
-use offers::{Leg, Outcome, Question, Receipt, Refusal};
+use offers::{Leg, Outcome, Question, Receipt, Refusal, Status};
 use std::io;
 
 // The most bytes of the bundle that are read.
@@ -35,13 +35,8 @@ fn ticket(persons: u32, cards: [u32; 4]) -> Question {
 fn write_outcome(rt: &impl Print, outcome: Outcome) -> io::Result<()> {
     match outcome {
         Outcome::Booked => rt.print("booked"),
-        Outcome::AlreadyBooked(status) => {
-            rt.print("already booked")?;
-            if status != 0 {
-                rt.print(", cancelled")?;
-            }
-            Ok(())
-        }
+        Outcome::AlreadyBooked(Status::Live) => rt.print("already booked"),
+        Outcome::AlreadyBooked(Status::Cancelled) => rt.print("already booked, cancelled"),
         Outcome::Cancelled => rt.print("cancelled"),
         Outcome::AlreadyCancelled => rt.print("already cancelled"),
     }

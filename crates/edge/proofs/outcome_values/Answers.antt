@@ -9,7 +9,7 @@ returns-in-Booked c parts = rw c.in-Booked.is
 
 pub returns-in-AlreadyBooked : goal.returns-in-AlreadyBooked
 unfolding outcome_values
-returns-in-AlreadyBooked c parts = rw c.in-AlreadyBooked.is
+returns-in-AlreadyBooked c parts = rw (c.in-AlreadyBooked.is, c.into.ensures)
 
 pub returns-in-Cancelled : goal.returns-in-Cancelled
 unfolding outcome_values

@@ -5,7 +5,7 @@ use Rattle.edge.proofs.BookingReplyFromResultBookingRefusal.from.Goals as goal
 
 pub returns-in-Ok : goal.returns-in-Ok
 unfolding booking_reply
-returns-in-Ok c = rw c.in-Ok.is
+returns-in-Ok c = rw (c.in-Ok.is, c.into.ensures)
 
 pub returns-in-Err : goal.returns-in-Err
 unfolding booking_reply
