@@ -4,18 +4,18 @@ use bundle::walk::table_at;
 use layout::rows::Row;
 use layout::rules::Rule;
 use layout::{Table, fields};
-use names::field_names::say_mark;
+use names::field_names::mark;
 use names::field_rules::first_bad;
-use names::words::{say, say_length, say_quoted, sum};
+use names::words::{say_length, say_quoted, sum};
 use std::io;
 
 // What may be wrong where a record should start and no mark stands.
 pub fn tell_mark_mistakes(rt: &impl Print, bundle: &[u8], at: usize) -> io::Result<()> {
     let table = table_in_capitals(bundle, at);
     if table.is_some() {
-        say(rt, b"Marks are capital letters: this would be the mark ")?;
-        say_mark(rt, table)?;
-        return say(rt, b".\n");
+        rt.print("Marks are capital letters: this would be the mark ")?;
+        rt.print(mark(table))?;
+        return rt.print(".\n");
     }
     tell_odd_byte(rt, bundle, at)?;
     tell_mark_nearby(rt, bundle, at)
@@ -52,19 +52,13 @@ fn capital(letter: u8) -> u8 {
 fn tell_odd_byte(rt: &impl Print, bundle: &[u8], at: usize) -> io::Result<()> {
     let odd = common::byte_at(bundle, sum(at, 1));
     if is_line_end(odd) {
-        say(rt, b"This is a line end. ")?;
-        say(
-            rt,
-            b"Between records, and behind the last one, stands nothing.\n",
-        )?;
+        rt.print("This is a line end. ")?;
+        rt.print("Between records, and behind the last one, stands nothing.\n")?;
     }
     if at == 0 {
         if odd == 239 {
-            say(
-                rt,
-                b"Many files that were saved as UTF-8 start with this byte. ",
-            )?;
-            say(rt, b"A bundle is ISO 8859-1.\n")?;
+            rt.print("Many files that were saved as UTF-8 start with this byte. ")?;
+            rt.print("A bundle is ISO 8859-1.\n")?;
         }
     }
     Ok(())
@@ -86,17 +80,17 @@ fn tell_mark_nearby(rt: &impl Print, bundle: &[u8], due: usize) -> io::Result<()
     if found == due {
         return Ok(());
     }
-    say(rt, b"A mark, ")?;
-    say_mark(rt, table_at(bundle, found))?;
-    say(rt, b", stands ")?;
+    rt.print("A mark, ")?;
+    rt.print(mark(table_at(bundle, found)))?;
+    rt.print(", stands ")?;
     if due < found {
         say_length(rt, found.saturating_sub(due))?;
         print!(rt; " further on, at byte {found}: ")?;
-        say(rt, b"what is before it is too long by as much.\n")
+        rt.print("what is before it is too long by as much.\n")
     } else {
         say_length(rt, due.saturating_sub(found))?;
         print!(rt; " earlier, at byte {found}: ")?;
-        say(rt, b"what is before it is too short by as much.\n")
+        rt.print("what is before it is too short by as much.\n")
     }
 }
 
@@ -145,30 +139,21 @@ fn tell_shift(rt: &impl Print, bundle: &[u8], due: usize) -> io::Result<()> {
 // What the first byte is that a text may not have.
 fn tell_characters(rt: &impl Print, text: &[u8]) -> io::Result<()> {
     let bad = common::byte_at(text, sum(first_bad(text), 1));
-    say(
-        rt,
-        b"A bundle is ISO 8859-1, which has one byte for each character. ",
-    )?;
+    rt.print("A bundle is ISO 8859-1, which has one byte for each character. ")?;
     print!(rt; "Byte {bad}")?;
     match bad {
-        9 => say(rt, b" is a tab, which no text may have.\n"),
-        10 => say(rt, b" is a line end, which no text may have.\n"),
-        13 => say(rt, b" is a line end, which no text may have.\n"),
+        9 => rt.print(" is a tab, which no text may have.\n"),
+        10 => rt.print(" is a line end, which no text may have.\n"),
+        13 => rt.print(" is a line end, which no text may have.\n"),
         128..=159 => tell_foreign_byte(rt),
-        _ => say(rt, b" is no character.\n"),
+        _ => rt.print(" is no character.\n"),
     }
 }
 
 fn tell_foreign_byte(rt: &impl Print) -> io::Result<()> {
-    say(rt, b" is none of them: ")?;
-    say(
-        rt,
-        b"UTF-8 has such bytes within characters of several bytes, ",
-    )?;
-    say(
-        rt,
-        b"Windows-1252 has dashes, curved quotes and the like there.\n",
-    )
+    rt.print(" is none of them: ")?;
+    rt.print("UTF-8 has such bytes within characters of several bytes, ")?;
+    rt.print("Windows-1252 has dashes, curved quotes and the like there.\n")
 }
 
 // The first two bytes that look like one letter in UTF-8, in the start of a record whose body starts at a place of the bundle.
@@ -177,14 +162,11 @@ fn tell_two_byte_letter(rt: &impl Print, start_of_body: &[u8], place: usize) -> 
     if start_of_body.len() <= i {
         return Ok(());
     }
-    say(rt, b"The bytes ")?;
+    rt.print("The bytes ")?;
     say_quoted(rt, common::part(start_of_body, i, 2))?;
     let at = sum(place, i);
     print!(rt; " at byte {at} look like UTF-8, where a letter with an accent takes two bytes ")?;
-    say(
-        rt,
-        b"and shifts what follows. Save the file as ISO 8859-1.\n",
-    )
+    rt.print("and shifts what follows. Save the file as ISO 8859-1.\n")
 }
 
 fn first_two_byte_letter(s: &[u8]) -> usize {

@@ -13,20 +13,17 @@ mod refusals;
 const LIMIT: usize = 1048576;
 
 fn tell_count(rt: &impl Print, bundle: &[u8], records: usize, table: Table) -> io::Result<()> {
-    field_names::say_table(rt, Some(table))?;
+    rt.print(field_names::table_name(Some(table)))?;
     let count = places::count_of(bundle, records, table);
     println!(rt; ": {count}")
 }
 
 fn tell_accepted(rt: &impl Print, bundle: &[u8], records: usize) -> io::Result<()> {
     if records == 0 {
-        return words::say(rt, b"The bundle is empty: it has no record.\n");
+        return rt.print("The bundle is empty: it has no record.\n");
     }
-    words::say(
-        rt,
-        b"The bundle is accepted: every record keeps the rules. ",
-    )?;
-    words::say(rt, b"Its records by table:\n")?;
+    rt.print("The bundle is accepted: every record keeps the rules. ")?;
+    rt.print("Its records by table:\n")?;
     tell_count(rt, bundle, records, Table::Co)?;
     tell_count(rt, bundle, records, Table::Re)?;
     tell_count(rt, bundle, records, Table::Ar)?;

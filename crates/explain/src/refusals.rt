@@ -5,9 +5,9 @@ use bundle::walk::table_at;
 use common::{Reason, Refusal};
 use layout::rows::Row;
 use layout::{Table, fields, rows};
-use names::field_names::{say_field, say_mark, say_table};
+use names::field_names::{field_name, mark, table_name};
 use names::field_rules::say_rule;
-use names::words::{say, say_bytes, say_delivered, say_quoted, sum};
+use names::words::{say_bytes, say_delivered, say_quoted, sum};
 use std::io;
 
 pub fn tell(rt: &impl Print, bundle: &[u8], why: Refusal) -> io::Result<()> {
@@ -21,39 +21,30 @@ pub fn tell(rt: &impl Print, bundle: &[u8], why: Refusal) -> io::Result<()> {
         Reason::OtherTransferor => tell_other_transferor(rt, bundle, record)?,
         Reason::KeyRepeated => tell_repeated_key(rt, bundle, record, detail)?,
         Reason::LinkMissing => tell_missing_link(rt, bundle, record, detail)?,
-        _ => say(rt, b"There are no words for this number here.\n")?,
+        _ => rt.print("There are no words for this number here.\n")?,
     }
-    say(
-        rt,
-        b"Only this first fault is told. Once it is mended there may be another.\n",
-    )
+    rt.print("Only this first fault is told. Once it is mended there may be another.\n")
 }
 
 fn tell_too_long(rt: &impl Print) -> io::Result<()> {
-    say(
-        rt,
-        b"The bundle is too long: it has more than 1048576 bytes. ",
-    )?;
-    say(rt, b"No record was looked at.\n")?;
-    say(rt, b"Deliver fewer offers in one bundle. ")?;
-    say(
-        rt,
-        b"Keep the records of an offer together, as they need each other.\n",
-    )
+    rt.print("The bundle is too long: it has more than 1048576 bytes. ")?;
+    rt.print("No record was looked at.\n")?;
+    rt.print("Deliver fewer offers in one bundle. ")?;
+    rt.print("Keep the records of an offer together, as they need each other.\n")
 }
 
 // What names a record within its table: offer and railway, or code, or all three.
 fn say_key(rt: &impl Print, table: Option<Table>, body: &[u8]) -> io::Result<()> {
     if table == Some(Table::Re) {
-        say(rt, b"code ")?;
+        rt.print("code ")?;
         return say_bytes(rt, fields::code(Table::Re, body));
     }
-    say(rt, b"offer ")?;
+    rt.print("offer ")?;
     say_bytes(rt, fields::offer(body))?;
-    say(rt, b", railway ")?;
+    rt.print(", railway ")?;
     say_bytes(rt, fields::railway(body))?;
     if table == Some(Table::Ar) {
-        say(rt, b", code ")?;
+        rt.print(", code ")?;
         say_bytes(rt, fields::code(Table::Ar, body))?;
     }
     Ok(())
@@ -72,29 +63,29 @@ fn tell_record(rt: &impl Print, bundle: &[u8], record: usize, at: usize) -> io::
     let table = table_at(bundle, at);
     let body = body_at(bundle, at);
     print!(rt; "Record {record}, counted from 0, is of table ")?;
-    say_table(rt, table)?;
+    rt.print(table_name(table))?;
     if has_key(table, body) {
-        say(rt, b": ")?;
+        rt.print(": ")?;
         say_key(rt, table, body)?;
     }
-    say(rt, b".\n")?;
+    rt.print(".\n")?;
     print!(rt; "It starts with its mark at byte {at} of the bundle, counted from 0.\n")
 }
 
 fn tell_no_mark(rt: &impl Print, bundle: &[u8], record: usize) -> io::Result<()> {
     let at = place_of(bundle, record);
     let found = common::part(bundle, at, 2);
-    say(rt, b"No record starts where one should.\n")?;
+    rt.print("No record starts where one should.\n")?;
     print!(rt; "Record {record}, counted from 0, should start at byte {at} of the bundle, ")?;
-    say(rt, b"counted from 0.\n")?;
-    say(rt, b"A record starts with its mark, CO, RE, AR or ME. ")?;
+    rt.print("counted from 0.\n")?;
+    rt.print("A record starts with its mark, CO, RE, AR or ME. ")?;
     if found.len() < 2 {
-        say(rt, b"Here a single byte is left: ")?;
+        rt.print("Here a single byte is left: ")?;
     } else {
-        say(rt, b"Here stand the bytes ")?;
+        rt.print("Here stand the bytes ")?;
     }
     say_quoted(rt, found)?;
-    say(rt, b".\n")?;
+    rt.print(".\n")?;
     hints::tell_mark_mistakes(rt, bundle, at)?;
     tell_record_before(rt, bundle, record)
 }
@@ -103,11 +94,8 @@ fn tell_record_before(rt: &impl Print, bundle: &[u8], record: usize) -> io::Resu
     if record == 0 {
         return Ok(());
     }
-    say(
-        rt,
-        b"Look for a line end or another byte behind the record before it, ",
-    )?;
-    say(rt, b"or whether that has the wrong length.\n")?;
+    rt.print("Look for a line end or another byte behind the record before it, ")?;
+    rt.print("or whether that has the wrong length.\n")?;
     let before = record - 1;
     tell_record(rt, bundle, before, place_of(bundle, before))
 }
@@ -117,15 +105,12 @@ fn tell_cut_short(rt: &impl Print, bundle: &[u8], record: usize) -> io::Result<(
     let left = body_at(bundle, at).len();
     let length = length_at(bundle, at);
     let lacking = length.saturating_sub(left);
-    say(rt, b"The bundle ends inside a record.\n")?;
+    rt.print("The bundle ends inside a record.\n")?;
     tell_record(rt, bundle, record, at)?;
     print!(rt; "Behind the mark it needs {length} bytes; the bundle has {left} left, ")?;
     print!(rt; "which is {lacking} too few.\n")?;
-    say(
-        rt,
-        b"The usual causes: the delivery was cut off, or this record lost bytes. ",
-    )?;
-    say(rt, b"Send it again.\n")
+    rt.print("The usual causes: the delivery was cut off, or this record lost bytes. ")?;
+    rt.print("Send it again.\n")
 }
 
 fn tell_broken_field(
@@ -143,12 +128,12 @@ fn tell_broken_field(
         None => &[],
     };
     let row = rows::of_field(of_table, field);
-    say(rt, b"A field breaks its rule.\n")?;
+    rt.print("A field breaks its rule.\n")?;
     tell_record(rt, bundle, record, at)?;
     tell_field(rt, table, row, at)?;
-    say(rt, b"Delivered: ")?;
+    rt.print("Delivered: ")?;
     say_delivered(rt, fields::field(body, row.start, row.length))?;
-    say(rt, b".\n")?;
+    rt.print(".\n")?;
     say_rule(rt, of_table, field, body, at)?;
     hints::tell_field_mistakes(rt, bundle, at, row)
 }
@@ -159,17 +144,17 @@ fn tell_field(rt: &impl Print, table: Option<Table>, row: Row, at: usize) -> io:
     let start = row.start;
     let length = row.length;
     print!(rt; "Field {field}, ")?;
-    say_field(rt, table, field)?;
-    say(rt, b": ")?;
-    say_span(rt, b"position", start, length)?;
-    say(rt, b" of the record, counted from 1 behind the mark; ")?;
-    say_span(rt, b"byte", sum(at, sum(start, 1)), length)?;
-    say(rt, b" of the bundle.\n")
+    rt.print(field_name(table, field))?;
+    rt.print(": ")?;
+    say_span(rt, "position", start, length)?;
+    rt.print(" of the record, counted from 1 behind the mark; ")?;
+    say_span(rt, "byte", sum(at, sum(start, 1)), length)?;
+    rt.print(" of the bundle.\n")
 }
 
 // One place, or the first and the last of several.
-fn say_span(rt: &impl Print, name: &[u8], first: usize, length: usize) -> io::Result<()> {
-    say(rt, name)?;
+fn say_span(rt: &impl Print, name: &str, first: usize, length: usize) -> io::Result<()> {
+    rt.print(name)?;
     if length <= 1 {
         return print!(rt; " {first}");
     }
@@ -179,14 +164,14 @@ fn say_span(rt: &impl Print, name: &[u8], first: usize, length: usize) -> io::Re
 
 fn tell_other_transferor(rt: &impl Print, bundle: &[u8], record: usize) -> io::Result<()> {
     let at = place_of(bundle, record);
-    say(rt, b"The record has another transferor than record 0.\n")?;
+    rt.print("The record has another transferor than record 0.\n")?;
     tell_record(rt, bundle, record, at)?;
-    say(rt, b"Its field 1, transferor, is ")?;
+    rt.print("Its field 1, transferor, is ")?;
     say_quoted(rt, fields::transferor(body_at(bundle, at)))?;
-    say(rt, b"; that of record 0 is ")?;
+    rt.print("; that of record 0 is ")?;
     say_quoted(rt, fields::transferor(body_at(bundle, 0)))?;
-    say(rt, b". All records of a bundle have the same transferor.\n")?;
-    say(rt, b"Take the record out, or correct its field 1.\n")
+    rt.print(". All records of a bundle have the same transferor.\n")?;
+    rt.print("Take the record out, or correct its field 1.\n")
 }
 
 fn tell_repeated_key(
@@ -204,25 +189,16 @@ fn tell_repeated_key(
         Some(table) => fields::first_shared_day(table, body, other),
         None => 0,
     };
-    say(
-        rt,
-        b"The record has the key of an earlier record, and the two periods overlap.\n",
-    )?;
+    rt.print("The record has the key of an earlier record, and the two periods overlap.\n")?;
     tell_record(rt, bundle, record, at)?;
     print!(rt; "Record {earlier}, at byte {before} of the bundle, has the same key: ")?;
     say_key(rt, table, other)?;
-    say(rt, b".\n")?;
+    rt.print(".\n")?;
     tell_period(rt, table, record, body)?;
     tell_period(rt, table, earlier, other)?;
     print!(rt; "The first day that is in both periods is {shared}.\n")?;
-    say(
-        rt,
-        b"Records of one key may stand together only if no day is in two of their periods.\n",
-    )?;
-    say(
-        rt,
-        b"Keep one of the two, or correct the first or the last day of one.\n",
-    )
+    rt.print("Records of one key may stand together only if no day is in two of their periods.\n")?;
+    rt.print("Keep one of the two, or correct the first or the last day of one.\n")
 }
 
 fn tell_period(
@@ -250,58 +226,49 @@ fn tell_missing_link(
     let at = place_of(bundle, record);
     let table = table_at(bundle, at);
     let body = body_at(bundle, at);
-    say(
-        rt,
-        b"The record needs another record that is not in the bundle.\n",
-    )?;
+    rt.print("The record needs another record that is not in the bundle.\n")?;
     tell_record(rt, bundle, record, at)?;
     match detail {
         1 => tell_code_wanted(rt, body)?,
         2 => tell_conditions_wanted(rt, table, body)?,
         3 => tell_flag_wants(rt, 33, Table::Ar, body)?,
         4 => tell_flag_wants(rt, 37, Table::Me, body)?,
-        _ => say(rt, b"Another record")?,
+        _ => rt.print("Another record")?,
     }
-    say(rt, b" is needed; there is none.\nAdd that record")?;
+    rt.print(" is needed; there is none.\nAdd that record")?;
     if 2 < detail {
-        say(rt, b", or set the flag to N")?;
+        rt.print(", or set the flag to N")?;
     }
-    say(rt, b".\n")
+    rt.print(".\n")
 }
 
 fn tell_code_wanted(rt: &impl Print, body: &[u8]) -> io::Result<()> {
-    say(
-        rt,
-        b"An AR record needs the RE record of its code, so an RE record of code ",
-    )?;
+    rt.print("An AR record needs the RE record of its code, so an RE record of code ")?;
     say_bytes(rt, fields::code(Table::Ar, body))
 }
 
 fn tell_conditions_wanted(rt: &impl Print, table: Option<Table>, body: &[u8]) -> io::Result<()> {
-    say(rt, b"An ")?;
-    say_mark(rt, table)?;
-    say(
-        rt,
-        b" record needs a CO record of its offer, so a CO record of offer ",
-    )?;
+    rt.print("An ")?;
+    rt.print(mark(table))?;
+    rt.print(" record needs a CO record of its offer, so a CO record of offer ")?;
     say_bytes(rt, fields::offer(body))?;
-    say(rt, b" for any railway")
+    rt.print(" for any railway")
 }
 
 // A CO record's flag that is Y wants a record of its offer, for its railway or for all of them.
 fn tell_flag_wants(rt: &impl Print, flag: u32, wants: Table, body: &[u8]) -> io::Result<()> {
     let railway = fields::railway(body);
     print!(rt; "Flag {flag}, ")?;
-    say_field(rt, Some(Table::Co), flag)?;
-    say(rt, b", is Y, so an ")?;
-    say_mark(rt, Some(wants))?;
-    say(rt, b" record of offer ")?;
+    rt.print(field_name(Some(Table::Co), flag))?;
+    rt.print(", is Y, so an ")?;
+    rt.print(mark(Some(wants)))?;
+    rt.print(" record of offer ")?;
     say_bytes(rt, fields::offer(body))?;
     if layout::company::is_all_railways(railway) {
-        say(rt, b" for any railway")
+        rt.print(" for any railway")
     } else {
-        say(rt, b" for railway ")?;
+        rt.print(" for railway ")?;
         say_bytes(rt, railway)?;
-        say(rt, b" or 0000")
+        rt.print(" or 0000")
     }
 }

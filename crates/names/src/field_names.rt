@@ -1,123 +1,120 @@
 // The names of tables and fields, as the layout has them.
-use super::words::say;
 use layout::Table;
-use std::io;
 
 // The mark of a table, or that it is unknown.
-pub fn say_mark(rt: &impl Print, table: Option<Table>) -> io::Result<()> {
+pub fn mark(table: Option<Table>) -> &'static str {
     match table {
-        Some(Table::Co) => say(rt, b"CO"),
-        Some(Table::Re) => say(rt, b"RE"),
-        Some(Table::Ar) => say(rt, b"AR"),
-        Some(Table::Me) => say(rt, b"ME"),
-        None => say(rt, b"unknown"),
+        Some(Table::Co) => "CO",
+        Some(Table::Re) => "RE",
+        Some(Table::Ar) => "AR",
+        Some(Table::Me) => "ME",
+        None => "unknown",
     }
 }
 
-pub fn say_table(rt: &impl Print, table: Option<Table>) -> io::Result<()> {
-    say_mark(rt, table)?;
+pub fn table_name(table: Option<Table>) -> &'static str {
     match table {
-        Some(Table::Co) => say(rt, b" (conditions)"),
-        Some(Table::Re) => say(rt, b" (types of discount)"),
-        Some(Table::Ar) => say(rt, b" (additional discounts)"),
-        Some(Table::Me) => say(rt, b" (memo)"),
-        None => say(rt, b""),
+        Some(Table::Co) => "CO (conditions)",
+        Some(Table::Re) => "RE (types of discount)",
+        Some(Table::Ar) => "AR (additional discounts)",
+        Some(Table::Me) => "ME (memo)",
+        None => "unknown",
     }
 }
 
-pub fn say_field(rt: &impl Print, table: Option<Table>, field: u32) -> io::Result<()> {
+pub fn field_name(table: Option<Table>, field: u32) -> &'static str {
     match table {
-        Some(Table::Co) => say_co(rt, field),
-        Some(Table::Re) => say_re(rt, field),
-        Some(Table::Ar) => say_ar(rt, field),
-        Some(Table::Me) => say_me(rt, field),
-        None => say(rt, b"unknown"),
+        Some(Table::Co) => of_co(field),
+        Some(Table::Re) => of_re(field),
+        Some(Table::Ar) => of_ar(field),
+        Some(Table::Me) => of_me(field),
+        None => "unknown",
     }
 }
 
-fn say_co(rt: &impl Print, field: u32) -> io::Result<()> {
+fn of_co(field: u32) -> &'static str {
     match field {
-        1 => say(rt, b"transferor"),
-        2 => say(rt, b"offer number"),
-        3 => say(rt, b"participating railway"),
-        4 => say(rt, b"conditions of fields 4 to 26, taken as one text"),
-        27 => say(rt, b"special conditions on the number of passengers"),
-        28 => say(rt, b"minimum number of passengers"),
-        29 => say(rt, b"maximum number of passengers"),
-        30 => say(rt, b"special series"),
-        31..=38 => say_flag(rt, field),
-        39 => say(rt, b"discount"),
-        40 => say(rt, b"rounding"),
-        41 => say(rt, b"rounding factor"),
-        42 => say(rt, b"first day of validity"),
-        43 => say(rt, b"version number"),
-        44 => say(rt, b"last day of validity"),
-        _ => say(rt, b"unknown"),
+        1 => "transferor",
+        2 => "offer number",
+        3 => "participating railway",
+        4 => "conditions of fields 4 to 26, taken as one text",
+        27 => "special conditions on the number of passengers",
+        28 => "minimum number of passengers",
+        29 => "maximum number of passengers",
+        30 => "special series",
+        31..=38 => of_flag(field),
+        39 => "discount",
+        40 => "rounding",
+        41 => "rounding factor",
+        42 => "first day of validity",
+        43 => "version number",
+        44 => "last day of validity",
+        _ => "unknown",
     }
 }
 
-fn say_flag(rt: &impl Print, field: u32) -> io::Result<()> {
+fn of_flag(field: u32) -> &'static str {
     match field {
-        31 => say(rt, b"train restrictions"),
-        32 => say(rt, b"passenger category discounts"),
-        33 => say(rt, b"additional discount"),
-        34 => say(rt, b"accompanying-person discount"),
-        35 => say(rt, b"exclusion periods"),
-        36 => say(rt, b"exchange and refund"),
-        37 => say(rt, b"extra information"),
-        _ => say(rt, b"supplement required"),
+        31 => "train restrictions",
+        32 => "passenger category discounts",
+        33 => "additional discount",
+        34 => "accompanying-person discount",
+        35 => "exclusion periods",
+        36 => "exchange and refund",
+        37 => "extra information",
+        _ => "supplement required",
     }
 }
 
-fn say_re(rt: &impl Print, field: u32) -> io::Result<()> {
+fn of_re(field: u32) -> &'static str {
     match field {
-        1 => say(rt, b"transferor"),
-        2 => say(rt, b"discount code"),
-        3 => say(rt, b"type of discount in the country's language"),
-        4 => say(rt, b"type of discount in French"),
-        5 => say(rt, b"type of discount in German"),
-        6 => say(rt, b"type of discount in English"),
-        7 => say(rt, b"reserved"),
-        8 => say(rt, b"link"),
-        9 => say(rt, b"first day of validity"),
-        10 => say(rt, b"version number"),
-        11 => say(rt, b"last day of validity"),
-        _ => say(rt, b"unknown"),
+        1 => "transferor",
+        2 => "discount code",
+        3 => "type of discount in the country's language",
+        4 => "type of discount in French",
+        5 => "type of discount in German",
+        6 => "type of discount in English",
+        7 => "reserved",
+        8 => "link",
+        9 => "first day of validity",
+        10 => "version number",
+        11 => "last day of validity",
+        _ => "unknown",
     }
 }
 
-fn say_ar(rt: &impl Print, field: u32) -> io::Result<()> {
+fn of_ar(field: u32) -> &'static str {
     match field {
-        1 => say(rt, b"transferor"),
-        2 => say(rt, b"offer number"),
-        3 => say(rt, b"participating railway"),
-        4 => say(rt, b"discount code"),
-        5 => say(rt, b"discount"),
-        6 => say(rt, b"cumulative discounts"),
-        7 => say(rt, b"rating"),
-        8 => say(rt, b"accompanying-person discount permitted"),
-        9 => say(rt, b"rounding"),
-        10 => say(rt, b"rounding factor"),
-        11 => say(rt, b"first day of validity"),
-        12 => say(rt, b"version number"),
-        13 => say(rt, b"last day of validity"),
-        _ => say(rt, b"unknown"),
+        1 => "transferor",
+        2 => "offer number",
+        3 => "participating railway",
+        4 => "discount code",
+        5 => "discount",
+        6 => "cumulative discounts",
+        7 => "rating",
+        8 => "accompanying-person discount permitted",
+        9 => "rounding",
+        10 => "rounding factor",
+        11 => "first day of validity",
+        12 => "version number",
+        13 => "last day of validity",
+        _ => "unknown",
     }
 }
 
-fn say_me(rt: &impl Print, field: u32) -> io::Result<()> {
+fn of_me(field: u32) -> &'static str {
     match field {
-        1 => say(rt, b"transferor"),
-        2 => say(rt, b"offer number"),
-        3 => say(rt, b"participating railway"),
-        4 => say(rt, b"extra information in the country's language"),
-        5 => say(rt, b"extra information in French"),
-        6 => say(rt, b"extra information in German"),
-        7 => say(rt, b"extra information in English"),
-        8 => say(rt, b"reserved"),
-        9 => say(rt, b"first day of validity"),
-        10 => say(rt, b"version number"),
-        11 => say(rt, b"last day of validity"),
-        _ => say(rt, b"unknown"),
+        1 => "transferor",
+        2 => "offer number",
+        3 => "participating railway",
+        4 => "extra information in the country's language",
+        5 => "extra information in French",
+        6 => "extra information in German",
+        7 => "extra information in English",
+        8 => "reserved",
+        9 => "first day of validity",
+        10 => "version number",
+        11 => "last day of validity",
+        _ => "unknown",
     }
 }

@@ -1,5 +1,5 @@
 // What a field must be, in one sentence, with the figures of its row and of the fields that its rule looks back to.
-use super::words::{say, say_digits, say_quoted, sum};
+use super::words::{say_digits, say_quoted, sum};
 use layout::rows::Row;
 use layout::rules::Rule;
 use layout::{fields, rows, rules};
@@ -14,37 +14,34 @@ pub fn say_rule(
     at: usize,
 ) -> io::Result<()> {
     let row = rows::of_field(of_table, field);
-    say(rt, b"It must be ")?;
+    rt.print("It must be ")?;
     match row.rule {
         Rule::Text => say_text_rule(rt, body, row.start, row.length, at)?,
-        Rule::Transferor => say(rt, b"four digits, 0001 to 9999")?,
-        Rule::Railway => say(
-            rt,
-            b"four digits, 0000 to 9999, where 0000 stands for all railways",
-        )?,
+        Rule::Transferor => rt.print("four digits, 0001 to 9999")?,
+        Rule::Railway => rt.print("four digits, 0000 to 9999, where 0000 stands for all railways")?,
         Rule::Number { least, most } => say_limits(rt, least, most, row.length)?,
         Rule::NumberOrBlank { least, most } => say_limits_or_blank(rt, least, most, row.length)?,
-        Rule::Flag => say(rt, b"Y or N, in capitals")?,
-        Rule::FlagOrBlank => say(rt, b"Y or N, in capitals, or blank")?,
+        Rule::Flag => rt.print("Y or N, in capitals")?,
+        Rule::FlagOrBlank => rt.print("Y or N, in capitals, or blank")?,
         Rule::MostPersons => say_most_persons_rule(rt, of_table, field, body)?,
-        Rule::Rounding => say(rt, b"one of + - 0 N")?,
+        Rule::Rounding => rt.print("one of + - 0 N")?,
         Rule::Factor => say_factor_rule(rt, of_table, field, body)?,
         Rule::FirstDay => say_day_rule(rt)?,
         Rule::LastDay => say_last_day_rule(rt, of_table, field, body)?,
     }
-    say(rt, b".\n")
+    rt.print(".\n")
 }
 
 fn say_limits(rt: &impl Print, least: u32, most: u32, width: usize) -> io::Result<()> {
-    say(rt, b"digits only, ")?;
+    rt.print("digits only, ")?;
     say_digits(rt, least, width)?;
-    say(rt, b" to ")?;
+    rt.print(" to ")?;
     say_digits(rt, most, width)
 }
 
 fn say_limits_or_blank(rt: &impl Print, least: u32, most: u32, width: usize) -> io::Result<()> {
     say_limits(rt, least, most, width)?;
-    say(rt, b", or all blank")
+    rt.print(", or all blank")
 }
 
 fn say_text_rule(
@@ -57,7 +54,7 @@ fn say_text_rule(
     let position = sum(start, first_bad(fields::field(body, start, length)));
     let bad = common::byte_at(body, position);
     let place = sum(at, sum(position, 1));
-    say(rt, b"text, of bytes 32 to 126 and 160 to 255 only; ")?;
+    rt.print("text, of bytes 32 to 126 and 160 to 255 only; ")?;
     print!(rt; "the first other byte is {bad}, at position {position} of the record, ")?;
     print!(rt; "byte {place} of the bundle")
 }
@@ -86,7 +83,7 @@ fn say_most_persons_rule(
     body: &[u8],
 ) -> io::Result<()> {
     say_limits_or_blank(rt, 1, 99, 2)?;
-    say(rt, b", and if it is 01 to 98, not below the minimum")?;
+    rt.print(", and if it is 01 to 98, not below the minimum")?;
     say_back(rt, of_table, field.saturating_sub(1), body)
 }
 
@@ -98,16 +95,13 @@ fn say_factor_rule(rt: &impl Print, of_table: &[Row], field: usize, body: &[u8])
         1
     };
     say_limits(rt, least, 999, 3)?;
-    say(rt, b", under the rounding")?;
+    rt.print(", under the rounding")?;
     say_back(rt, of_table, field.saturating_sub(1), body)?;
-    say(rt, b"; 000 is for rounding N only")
+    rt.print("; 000 is for rounding N only")
 }
 
 fn say_day_rule(rt: &impl Print) -> io::Result<()> {
-    say(
-        rt,
-        b"a real day, written YYYYMMDD, of the years 1583 to 9999",
-    )
+    rt.print("a real day, written YYYYMMDD, of the years 1583 to 9999")
 }
 
 fn say_last_day_rule(
@@ -117,6 +111,6 @@ fn say_last_day_rule(
     body: &[u8],
 ) -> io::Result<()> {
     say_day_rule(rt)?;
-    say(rt, b", and not before the first day")?;
+    rt.print(", and not before the first day")?;
     say_back(rt, of_table, field.saturating_sub(2), body)
 }

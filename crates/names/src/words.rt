@@ -2,10 +2,6 @@
 use common::Refusal;
 use std::io;
 
-pub fn say(rt: &impl Print, text: &[u8]) -> io::Result<()> {
-    rt.write_all(text)
-}
-
 // The verdict on a bundle as one line: how many records it has, or the first fault.
 pub fn say_verdict(rt: &impl Print, verdict: Result<usize, Refusal>) -> io::Result<()> {
     match verdict {
@@ -32,9 +28,9 @@ pub fn say_bytes(rt: &impl Print, s: &[u8]) -> io::Result<()> {
 }
 
 pub fn say_quoted(rt: &impl Print, s: &[u8]) -> io::Result<()> {
-    say(rt, b"\"")?;
+    rt.print("\"")?;
     say_bytes(rt, s)?;
-    say(rt, b"\"")
+    rt.print("\"")
 }
 
 // The most bytes of a value that are shown.
@@ -44,9 +40,9 @@ const SHOWN: usize = 60;
 pub fn say_delivered(rt: &impl Print, s: &[u8]) -> io::Result<()> {
     say_quoted(rt, common::part(s, 0, SHOWN))?;
     if SHOWN < s.len() {
-        say(rt, b"... (")?;
+        rt.print("... (")?;
         say_length(rt, s.len())?;
-        say(rt, b")")?;
+        rt.print(")")?;
     }
     Ok(())
 }
@@ -54,9 +50,9 @@ pub fn say_delivered(rt: &impl Print, s: &[u8]) -> io::Result<()> {
 pub fn say_length(rt: &impl Print, n: usize) -> io::Result<()> {
     say_number(rt, n)?;
     if n == 1 {
-        say(rt, b" byte")
+        rt.print(" byte")
     } else {
-        say(rt, b" bytes")
+        rt.print(" bytes")
     }
 }
 
