@@ -35,23 +35,16 @@ pub fn tell_field_mistakes(rt: &impl Print, bundle: &[u8], at: usize, row: Row) 
 // The table whose mark stands at a place, if one does, where small letters count as capital ones.
 fn table_in_capitals(bundle: &[u8], at: usize) -> Option<Table> {
     let mark = [
-        capital(common::byte_at(bundle, sum(at, 1))),
-        capital(common::byte_at(bundle, sum(at, 2))),
+        common::byte_at(bundle, sum(at, 1)).to_ascii_uppercase(),
+        common::byte_at(bundle, sum(at, 2)).to_ascii_uppercase(),
     ];
     table_at(&mark, 0)
-}
-
-fn capital(letter: u8) -> u8 {
-    match letter {
-        97..=122 => letter - 32,
-        _ => letter,
-    }
 }
 
 // A line end, or the byte that many files start with which were saved as UTF-8.
 fn tell_odd_byte(rt: &impl Print, bundle: &[u8], at: usize) -> io::Result<()> {
     let odd = common::byte_at(bundle, sum(at, 1));
-    if is_line_end(odd) {
+    if matches!(odd, b'\n' | b'\r') {
         rt.print("This is a line end. ")?;
         rt.print("Between records, and behind the last one, stands nothing.\n")?;
     }
@@ -62,14 +55,6 @@ fn tell_odd_byte(rt: &impl Print, bundle: &[u8], at: usize) -> io::Result<()> {
         }
     }
     Ok(())
-}
-
-fn is_line_end(b: u8) -> bool {
-    match b {
-        10 => true,
-        13 => true,
-        _ => false,
-    }
 }
 
 // How far from its place a mark is looked for: less than the shortest record, so that it is not the mark of the record before.
@@ -158,10 +143,9 @@ fn tell_foreign_byte(rt: &impl Print) -> io::Result<()> {
 
 // The first two bytes that look like one letter in UTF-8, in the start of a record whose body starts at a place of the bundle.
 fn tell_two_byte_letter(rt: &impl Print, start_of_body: &[u8], place: usize) -> io::Result<()> {
-    let i = first_two_byte_letter(start_of_body);
-    if start_of_body.len() <= i {
+    let Some(i) = start_of_body.windows(2).position(is_two_byte_letter) else {
         return Ok(());
-    }
+    };
     rt.print("The bytes ")?;
     say_quoted(rt, common::part(start_of_body, i, 2))?;
     let at = sum(place, i);
@@ -169,26 +153,6 @@ fn tell_two_byte_letter(rt: &impl Print, start_of_body: &[u8], place: usize) -> 
     rt.print("and shifts what follows. Save the file as ISO 8859-1.\n")
 }
 
-fn first_two_byte_letter(s: &[u8]) -> usize {
-    for i in 0..s.len() {
-        if is_two_byte_letter(common::part(s, i, 2)) {
-            return i;
-        }
-    }
-    s.len()
-}
-
 fn is_two_byte_letter(two: &[u8]) -> bool {
-    match common::byte_at(two, 1) {
-        194 => is_second_byte(common::byte_at(two, 2)),
-        195 => is_second_byte(common::byte_at(two, 2)),
-        _ => false,
-    }
-}
-
-fn is_second_byte(b: u8) -> bool {
-    match b {
-        128..=191 => true,
-        _ => false,
-    }
+    matches!(two, [194 | 195, 128..=191])
 }

@@ -61,12 +61,9 @@ fn say_text_rule(
 
 // The first byte of a text, from 0, that no text may have.
 pub fn first_bad(text: &[u8]) -> usize {
-    for i in 0..text.len() {
-        if !rules::text(common::part(text, i, 1)) {
-            return i;
-        }
-    }
-    text.len()
+    text.iter()
+        .position(|b| !rules::text(&[*b]))
+        .unwrap_or(text.len())
 }
 
 // The field that a rule looks back to: its number, and its bytes.

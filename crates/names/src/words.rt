@@ -65,12 +65,7 @@ fn say_byte(rt: &impl Print, b: u8) -> io::Result<()> {
 }
 
 fn is_plain(b: u8) -> bool {
-    match b {
-        b'"' => false,
-        b'\\' => false,
-        32..=126 => true,
-        _ => false,
-    }
+    matches!(b, 32..=126) && b != b'"' && b != b'\\'
 }
 
 const LIMIT: usize = 1048576;
