@@ -14,16 +14,7 @@ use super::words::{
 pub fn is_number(till: u32, sequence: u64) -> bool
     ensures { result ≡ number_in_limits till sequence }
 {
-    if till < 1 {
-        return false;
-    }
-    if 65535 < till {
-        return false;
-    }
-    if sequence < 1 {
-        return false;
-    }
-    sequence <= 4294967295
+    matches!(till, 1..=65535) && matches!(sequence, 1..=4294967295)
 }
 
 // Whether the first legs that words say are within their limits.

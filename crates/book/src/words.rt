@@ -162,7 +162,7 @@ pub fn all_bounded(words: &[u32], bound: u32) -> bool
 {
     let mut good = true;
     for word in words {
-        good = common::both(good, *word <= bound);
+        good &= *word <= bound;
     }
     good
 }

@@ -9,7 +9,7 @@ pub loop-word-preserved : goal.loop-word-preserved
 loop-word-preserved c =
     let a = c.args in
     let e = every_step (λ p. leb p a.bound) a.words.now c.loop-word.word-index 0 c.loop-word-test.true in
-    c.loop-word.invariant ∙ rw (e, c.both-good.ensures, and_assoc) refl
+    c.loop-word.invariant ∙ rw (e, and_assoc) refl
 
 pub returns : goal.returns
 returns c =
