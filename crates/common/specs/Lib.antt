@@ -6,6 +6,7 @@ pub mod Ranks
 pub mod CheckDigit
 pub mod Figures
 pub mod Reasons
+pub mod Numbered
 pub mod Checks
 pub mod RefusalText
 pub mod Helpers

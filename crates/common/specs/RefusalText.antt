@@ -1,6 +1,6 @@
 -- How a refusal is written: its number, place and detail as decimal numbers, with a blank between them.
 -- Assumes nothing.
-use Rattle.std.specs.Prelude.{ℕ, List, [], ◌∷◌, ◌++◌, decimal}
+use Rattle.std.specs.Prelude.{ℕ, List, ◌∷◌, ◌++◌, decimal}
 use Rattle.common.specs.Reasons.{number_of_reason}
 use Rattle.common.specs.declared.Refusal.{Refusal}
 

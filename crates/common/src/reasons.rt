@@ -1,6 +1,7 @@
 // Why work is turned away: one for each check that can fail, in the order of their numbers.
 ghost use Rattle.std.specs.Prelude.{◌≡◌};
 ghost use Rattle.common.specs.Reasons.{number_of_reason};
+ghost use Rattle.common.specs.Numbered.{IsNumbered};
 
 #[derive(Clone, Copy)]
 pub enum Reason {
@@ -49,5 +50,40 @@ impl From<Reason> for u8 {
             Reason::BookFull => 24,
             Reason::SaleUnknown => 25,
         }
+    }
+}
+
+// A number that no reason has.
+#[derive(Clone, Copy)]
+pub struct NoReason(pub u8);
+
+impl TryFrom<u8> for Reason {
+    type Error = NoReason;
+
+    ghost try_from_gives = { IsNumbered };
+
+    #[tactic(auto, unfolding(crate::specs::Lists::any))]
+    fn try_from(number: u8) -> Result<Reason, NoReason> {
+        Ok(match number {
+            1 => Reason::BundleTooLong,
+            2 => Reason::MarkUnknown,
+            3 => Reason::RecordShort,
+            4 => Reason::FieldBroken,
+            5 => Reason::OtherTransferor,
+            6 => Reason::KeyRepeated,
+            7 => Reason::LinkMissing,
+            11 => Reason::OutsideLimits,
+            12 => Reason::NoConditions,
+            13 => Reason::DayOutside,
+            14 => Reason::PersonsOutside,
+            15 => Reason::ConditionUnread,
+            17 => Reason::CardTwice,
+            21 => Reason::BookUnsound,
+            22 => Reason::NumberOutside,
+            23 => Reason::NumberTaken,
+            24 => Reason::BookFull,
+            25 => Reason::SaleUnknown,
+            _ => return Err(NoReason(number)),
+        })
     }
 }

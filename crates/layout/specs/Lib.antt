@@ -4,6 +4,7 @@ pub mod Dates
 pub mod Calendar
 pub mod MonthRule
 pub mod Layout
+pub mod Numbered
 pub mod Fields
 pub mod Figures
 pub mod Rules

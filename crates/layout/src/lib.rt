@@ -3,6 +3,7 @@
 
 ghost use Rattle.std.specs.Prelude.{◌≡◌};
 ghost use Rattle.layout.specs.Layout.{table_number, length_of};
+ghost use Rattle.layout.specs.Numbered.{IsNumbered};
 
 pub mod company;
 pub mod dates;
@@ -28,6 +29,26 @@ pub fn number_of(table: Table) -> u64
         Table::Re => 1,
         Table::Ar => 2,
         Table::Me => 3,
+    }
+}
+
+// A number that no table has.
+#[derive(Clone, Copy)]
+pub struct NoTable(pub u32);
+
+impl TryFrom<u32> for Table {
+    type Error = NoTable;
+
+    ghost try_from_gives = { IsNumbered };
+
+    fn try_from(number: u32) -> Result<Table, NoTable> {
+        match number {
+            0 => Ok(Table::Co),
+            1 => Ok(Table::Re),
+            2 => Ok(Table::Ar),
+            3 => Ok(Table::Me),
+            _ => Err(NoTable(number)),
+        }
     }
 }
 

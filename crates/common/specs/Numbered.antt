@@ -1,0 +1,15 @@
+-- A reason by its number.
+-- Assumes nothing.
+use Rattle.std.specs.Prelude.{◌≡◌, ℕ, false, List, [], ◌∷◌, Result, MatchResult, eqb}
+use Rattle.common.specs.Lists.{any}
+use Rattle.common.specs.Reasons.{number_of_reason}
+use Rattle.common.specs.declared.reasons.Reason.{Reason}
+use Rattle.common.specs.declared.reasons.NoReason.{NoReason}
+
+-- the numbers of document 01
+abbrev pub numbers : List ℕ
+numbers = 1 ∷ 2 ∷ 3 ∷ 4 ∷ 5 ∷ 6 ∷ 7 ∷ 11 ∷ 12 ∷ 13 ∷ 14 ∷ 15 ∷ 17 ∷ 21 ∷ 22 ∷ 23 ∷ 24 ∷ 25 ∷ []
+
+-- the reason of this number, or the number, where it is none of them
+abbrev pub IsNumbered : ℕ → Result Reason NoReason → Type 0
+IsNumbered number r = MatchResult r (λ reason. number_of_reason reason ≡ number) (λ none. (none.0 ≡ number) × (any (eqb number) numbers ≡ false))
