@@ -99,16 +99,6 @@ fn are_joined<'a>(join: Join, t: Table, r: &'a [u8], u: Table, q: &'a [u8]) -> b
     }
 }
 
-// Whether a record q is one that the record r wants by a link.
-fn serves_it<'a>(link: Link, t: Table, r: &'a [u8], u: Table, q: &'a [u8]) -> bool
-    ensures { result ≡ serves link (rec t r.now) (rec u q.now) }
-{
-    if u != link.wants {
-        return false;
-    }
-    are_joined(link.join, t, r, u, q)
-}
-
 // Whether the record at a place is one that a record of a table wants by a link.
 fn serves_at<'a>(bundle: &'a [u8], link: Link, table: Table, r: &'a [u8], place: usize) -> bool
     ensures { result ≡ serves_at bundle.now link (rec table r.now) place }
@@ -117,7 +107,10 @@ fn serves_at<'a>(bundle: &'a [u8], link: Link, table: Table, r: &'a [u8], place:
     let Step::Whole(t, start, next) = here else {
         return false;
     };
-    serves_it(link, table, r, t, &bundle[start..next])
+    if t != link.wants {
+        return false;
+    }
+    are_joined(link.join, table, r, t, &bundle[start..next])
 }
 
 // The place of the first such record.
@@ -132,7 +125,7 @@ fn first_served<'a>(bundle: &'a [u8], link: Link, table: Table, r: &'a [u8]) -> 
         };
         // the table first: most records are of another, and are passed without a call
         if t == link.wants {
-            if serves_it(link, table, r, t, &bundle[start..next]) {
+            if are_joined(link.join, table, r, t, &bundle[start..next]) {
                 return Some(at);
             }
         }
