@@ -1,6 +1,6 @@
 -- A REFUSAL BY MEANING: what the first check that fails says of the bundle, and back.
 -- Assumes nothing.
-use Rattle.std.specs.Prelude.{Err}
+use Rattle.std.specs.Prelude.{Err, Option, Some, None, is_some, unwrap_or}
 use Prim.Native.Nat.{ℕ, ◌+◌, ◌≤◌, ◌<◌}
 use mathlib.Core.Path.{◌≡◌, refl, sym, ◌∙◌, ap}
 use mathlib.Core.Bool.{Bool, true, false, cond, and-false}
@@ -8,9 +8,9 @@ use mathlib.Core.List.{List, [], ◌∷◌, ◌++◌, append-nil}
 use mathlib.Core.Logic.{⊎_elim}
 use native.Mathlib.Nat.{zero-add}
 use native.Mathlib.Omega.{arith}
-use lib.Dec.{eqb, ltb}
+use lib.Dec.{ltb}
 use lib.ListN.{length, length-append}
-use borrow.Author.Tests.{lt-ltb, le-ltb, ltb-true, ltb-false, not-true, not-false, eqb-false, ne_eqb}
+use borrow.Author.Tests.{lt-ltb, le-ltb, ltb-true, ltb-false, not-false}
 use Rattle.common.specs.declared.reasons.Reason.{Reason}
 use Rattle.common.specs.declared.reasons.Reason.TheVariants.{BundleTooLong, MarkUnknown, RecordShort, FieldBroken, OtherTransferor, KeyRepeated, LinkMissing}
 use Rattle.common.specs.Least.{least}
@@ -22,7 +22,7 @@ use Rattle.common.proofs.Least.{passes, before, hit, none}
 use Rattle.common.proofs.Lists.{same_is}
 use Rattle.common.proofs.Checks.{one_clean, append_clean, clean_append, clean_each, one_fault, append_fault, last_fault, fault_append, each_clean, each_fault, fault_each}
 use Rattle.layout.specs.Layout.{table_at}
-use Rattle.layout.specs.Rules.{keeps_row, first_broken, broken_field, keeps_rules}
+use Rattle.layout.specs.Rules.{keeps_row, first_broken, broken_field}
 use Rattle.layout.specs.declared.rows.Row.{Row}
 use Rattle.layout.proofs.Tables.{unbroken_keeps}
 use Rattle.bundle.specs.Records.{Rec, no_rec, step_of, records_of, rest_of}
@@ -39,22 +39,26 @@ use Rattle.bundle.proofs.CutAndJoin.{cut_joined, cut_means, cut_only, unknown_me
 use Rattle.bundle.proofs.Meaning.{nothing_left, left_nothing, same_transferor, transferor_same, no_clash, clash_none}
 
 -- A FIELD: the first row that is not kept
+some_is : (o : Option ℕ) → is_some o ≡ true → o ≡ Some (unwrap_or o 0)
+some_is None e = absurd (cc e)
+some_is (Some f) e = refl
+
 abbrev Split : (Row → Bool) → List Row → ℕ → Type 0
 Split kept rows f =
     (left : List Row) × (row : Row) × (right : List Row) × (rows ≡ left ++ (row ∷ right)) × (row.field ≡ f) × (every kept left ≡ true) × (kept row ≡ false)
 
-first_broken_lem : (kept : Row → Bool) (rows : List Row) → (first_broken kept rows ≡ 0 → ⊥) → Split kept rows (first_broken kept rows)
+first_broken_lem : (kept : Row → Bool) (rows : List Row) (f : ℕ) → first_broken kept rows ≡ Some f → Split kept rows f
 unfolding first_broken every
-first_broken_lem kept [] n = absurd (n refl)
-first_broken_lem kept (x ∷ rows) n = go (kept x) refl (first_broken_lem kept rows) n
+first_broken_lem kept [] f q = absurd (cc q)
+first_broken_lem kept (x ∷ rows) f q = go (kept x) refl (first_broken_lem kept rows f) q
   where
-    go : (b : Bool) → kept x ≡ b → ((first_broken kept rows ≡ 0 → ⊥) → Split kept rows (first_broken kept rows)) → (cond b (first_broken kept rows) x.field ≡ 0 → ⊥)
-        → Split kept (x ∷ rows) (cond b (first_broken kept rows) x.field)
-    go false e ih n = ([], x, rows, refl, refl, refl, e)
-    go true e ih n = let r = ih n in (x ∷ r.0, r.1, r.2, ap (x ∷◌) r.3, r.4, rw e r.5, r.6)
+    go : (b : Bool) → kept x ≡ b → (first_broken kept rows ≡ Some f → Split kept rows f) → cond b (first_broken kept rows) (Some x.field) ≡ Some f
+        → Split kept (x ∷ rows) f
+    go false e ih q = ([], x, rows, refl, cc q, refl, e)
+    go true e ih q = let r = ih q in (x ∷ r.0, r.1, r.2, ap (x ∷◌) r.3, r.4, rw e r.5, r.6)
 
 broken_first : (kept : Row → Bool) (left : List Row) (row : Row) (right : List Row) → every kept left ≡ true → kept row ≡ false
-    → (first_broken kept (left ++ (row ∷ right)) ≡ row.field) × (every kept (left ++ (row ∷ right)) ≡ false)
+    → (first_broken kept (left ++ (row ∷ right)) ≡ Some row.field) × (every kept (left ++ (row ∷ right)) ≡ false)
 unfolding first_broken every
 broken_first kept [] row right k b = rw b (refl, refl)
 broken_first kept (x ∷ left) row right k b =
@@ -62,23 +66,21 @@ broken_first kept (x ∷ left) row right k b =
     rw d.0 (broken_first kept left row right d.1 b)
 
 module _ (r : Rec) where
-  breaks : (broken_field r.table r.body ≡ 0 → ⊥) → Breaks r (broken_field r.table r.body)
+  breaks : (f : ℕ) → broken_field r.table r.body ≡ Some f → Breaks r f
   unfolding broken_field
-  breaks n =
-      let b = first_broken_lem (keeps_row r.table r.body) (table_at r.table).rows n in
+  breaks f q =
+      let b = first_broken_lem (keeps_row r.table r.body) (table_at r.table).rows f q in
       record { left = b.0; row = b.1; right = b.2; split = b.3; is_field = b.4; left_kept = b.5; broken = b.6 }
 
-  broken_is : (f : ℕ) → Breaks r f → (broken_field r.table r.body ≡ f) × (f ≡ 0 → ⊥)
-  unfolding broken_field keeps_rules
+  broken_is : (f : ℕ) → Breaks r f → broken_field r.table r.body ≡ Some f
+  unfolding broken_field
   broken_is f b =
       let kept = keeps_row r.table r.body in
       let d = broken_first kept b.left b.row b.right b.left_kept b.broken in
-      let e : broken_field r.table r.body ≡ f = ap (first_broken kept) b.split ∙ (d.0 ∙ b.is_field) in
-      let k : eqb (broken_field r.table r.body) 0 ≡ false = unbroken_keeps r.table r.body ∙ (ap (every kept) b.split ∙ d.1) in
-      (e, eqb-false f 0 (rw e at k))
+      ap (first_broken kept) b.split ∙ (d.0 ∙ ap Some b.is_field)
 
   keeps : (i : ℕ) → first_fault (field_checks i r) ≡ clean → KeepsRules r
-  keeps i e = sym (unbroken_keeps r.table r.body) ∙ not-false _ (one_clean _ FieldBroken i _ [] e).0
+  keeps i e = not-false _ (sym (unbroken_keeps r.table r.body) ∙ (one_clean _ FieldBroken i _ [] e).0)
 
   kept_clean : (i : ℕ) → KeepsRules r → first_fault (field_checks i r) ≡ clean
   unfolding first_fault
@@ -143,8 +145,8 @@ module _ (s : List ℕ) where
           let r = record_at R i in
           let b = last_fault _ FieldBroken (0 + i) _ h.fails in
           rw (← b.1, zero-add)
-          (breaks_a_field i (broken_field r.table r.body) (record { size = l; earlier = λ j m. fields_told j (h.earlier_clean j m) }) h.inside
-          (breaks r (eqb-false _ 0 (not-true _ b.0))))
+          (breaks_a_field i (unwrap_or (broken_field r.table r.body) 0) (record { size = l; earlier = λ j m. fields_told j (h.earlier_clean j m) }) h.inside
+          (breaks r _ (some_is _ b.0)))
 
       whole_look : first_fault (each_from 0 field_checks R) ≡ clean → FirstLook s R (length R)
       whole_look c = record { size = l; earlier = λ j m. fields_told j (each_clean field_checks no_rec 0 R c j m) }
@@ -258,7 +260,7 @@ module _ (s : List ℕ) where
       (record {
         at = i;
         inside = l;
-        fails = rw (zero-add, e.0, ne_eqb f 0 e.1);
+        fails = rw (zero-add, e);
         earlier_clean = λ j m. kept_clean (record_at R j) (0 + j) (k.earlier j m);
       })))
   means_fault n p d (other_transferor_fault i k t) = in_second i k (refuse OtherTransferor i 0) (rw (another R i t))

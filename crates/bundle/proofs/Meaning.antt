@@ -1,14 +1,14 @@
 -- WHAT A VERDICT MEANS. Accepted with n exactly if the bytes are n records that keep every rule; refused exactly if that check of the order fails
 -- and none before it.
 -- Assumes nothing.
-use Rattle.std.specs.Prelude.{Ok}
+use Rattle.std.specs.Prelude.{Ok, is_some}
 use Prim.Native.Nat.{ℕ, suc, ◌+◌, ◌<◌}
 use mathlib.Core.Path.{◌≡◌, refl, sym, ◌∙◌}
-use mathlib.Core.Bool.{false, not}
+use mathlib.Core.Bool.{false}
 use mathlib.Core.List.{List, [], ◌∷◌, ◌++◌, append-nil}
 use native.Mathlib.Nat.{zero-add}
 use native.Mathlib.Omega.{arith}
-use lib.Dec.{eqb, ltb}
+use lib.Dec.{ltb}
 use lib.ListN.{length}
 use borrow.Author.Tests.{lt-ltb, le-ltb, ltb-false, not-false}
 use Rattle.common.specs.declared.reasons.Reason.TheVariants.{BundleTooLong, MarkUnknown, RecordShort, FieldBroken, OtherTransferor, KeyRepeated, LinkMissing}
@@ -33,7 +33,7 @@ use Rattle.bundle.proofs.LinkMeaning.{links_there, there_links}
 use Rattle.bundle.proofs.CutAndJoin.{cut_joined, cut_over, cut_whole, joined_cut}
 
 -- FIELDS: none is broken exactly if each keeps its rule
-unbroken : (r : Rec) → KeepsRules r → not (eqb (broken_field r.table r.body) 0) ≡ false
+unbroken : (r : Rec) → KeepsRules r → is_some (broken_field r.table r.body) ≡ false
 unbroken r e = rw (unbroken_keeps r.table r.body, e)
 
 -- RECORDS beside the others
@@ -89,7 +89,7 @@ module _ (s : List ℕ) where
     fields : (i : ℕ) → i < length R → KeepsRules (record_at R i)
     fields i l =
         let r = record_at R i in
-        sym (unbroken_keeps r.table r.body) ∙ not-false _ (one_clean _ FieldBroken (0 + i) _ [] (each_clean field_checks no_rec 0 R passes.0 i l)).0
+        not-false _ (sym (unbroken_keeps r.table r.body) ∙ (one_clean _ FieldBroken (0 + i) _ [] (each_clean field_checks no_rec 0 R passes.0 i l)).0)
 
     beside : (i : ℕ) → i < length R → first_fault (record_checks R i (record_at R i)) ≡ clean
     beside i l = rw zero-add at (each_clean (record_checks R) no_rec 0 R by_record i l)

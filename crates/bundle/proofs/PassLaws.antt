@@ -1,15 +1,15 @@
 -- What each record adds to the two passes: the laws that their loops cite.
 -- Assumes nothing.
-use Rattle.std.specs.Prelude.{Ok, Err}
+use Rattle.std.specs.Prelude.{Ok, Err, Option, Some, None, is_some, unwrap_or}
 use Prim.Native.Nat.{ℕ, ◌+◌, ◌≤◌, ◌<◌}
 use mathlib.Core.Path.{◌≡◌, refl, ◌∙◌}
 use mathlib.Core.Bool.{Bool, true, false, cond, not}
 use mathlib.Core.Logic.{⊎_elim}
 use mathlib.Core.List.{List, [], ◌∷◌, ◌++◌}
 use native.Mathlib.Omega.{arith}
-use lib.Dec.{eqb, ltb}
+use lib.Dec.{ltb}
 use lib.ListN.{length, get_or, take, drop, length-drop, drop_of_length-le}
-use borrow.Author.Tests.{lt-ltb, le-ltb, eq-eqb, ne_eqb}
+use borrow.Author.Tests.{lt-ltb, le-ltb}
 use Rattle.common.specs.declared.reasons.Reason.TheVariants.{BundleTooLong, MarkUnknown, RecordShort, FieldBroken, OtherTransferor, KeyRepeated, LinkMissing}
 use Rattle.common.specs.Lists.{same}
 use Rattle.common.specs.Checks.{refuse, Finding, clean, fault, first_fault, each_from}
@@ -40,21 +40,21 @@ unfolding first_pass
 first_start s = refl
 
 -- the first field that breaks its rule, from the rows as they were lent
-pub found_field : (t : Table) (body : List ℕ) {rows own : List Row} {f : ℕ} → rows ≡ layout → own ≡ take (length (table_at t).rows) (drop (first_row t) rows)
+pub found_field : (t : Table) (body : List ℕ) {rows own : List Row} {f : Option ℕ} → rows ≡ layout → own ≡ take (length (table_at t).rows) (drop (first_row t) rows)
     → f ≡ first_broken (obeys_row body) own → f ≡ broken_field t body
 found_field t body e o q = rw (q, o, e) (broken_in_table t body)
 
 module _ (s : List ℕ) (p i : ℕ) (h : Here s p i) where
-  module _ {t : Table} {start next : ℕ} (w : Stands s p i t start next) {f : ℕ} (q : f ≡ broken_field t (between start next s)) where
-    field_step : first_from s i ≡ cond (not (eqb f 0)) (fault (refuse FieldBroken i f)) (first_from s (i + 1))
+  module _ {t : Table} {start next : ℕ} (w : Stands s p i t start next) {found : Option ℕ} (q : found ≡ broken_field t (between start next s)) where
+    field_step : first_from s i ≡ cond (is_some found) (fault (refuse FieldBroken i (unwrap_or found 0))) (first_from s (i + 1))
     unfolding each_from first_fault
     field_step = rw (w.cons, q)
 
-    pub field_fault : (f ≡ 0 → ⊥) → first_from s i ≡ fault (refuse FieldBroken i f)
-    field_fault n = field_step ∙ rw (ne_eqb f 0 n)
+    pub field_fault : {f : ℕ} → found ≡ Some f → first_from s i ≡ fault (refuse FieldBroken i f)
+    field_fault e = rw e at (field_step)
 
-    pub fields_pass : f ≡ 0 → first_from s i ≡ first_from s (i + 1)
-    fields_pass e = field_step ∙ rw (eq-eqb f 0 e)
+    pub fields_pass : found ≡ None → first_from s i ≡ first_from s (i + 1)
+    fields_pass e = rw e at (field_step)
 
   at_over : Over (drop p s) → first_from s i ≡ first_fault (end_checks i (drop p s))
   unfolding each_from

@@ -1,6 +1,6 @@
 -- The verdict on a bundle: its checks in document 01's order, of which the first that fails is told ('Keys and links', 'Numbers that turn work away').
 -- Assumes nothing.
-use Rattle.std.specs.Prelude.{Result, ℕ, Bool, true, false, not, ◌&&◌, List, [], ◌∷◌, ◌++◌, eqb, ltb, length, get_or}
+use Rattle.std.specs.Prelude.{Option, is_some, unwrap_or, Result, ℕ, Bool, true, false, ◌&&◌, List, [], ◌∷◌, ◌++◌, ltb, length, get_or}
 use Rattle.common.specs.declared.reasons.Reason.TheVariants.{BundleTooLong, MarkUnknown, RecordShort, FieldBroken, OtherTransferor, KeyRepeated, LinkMissing}
 use Rattle.common.specs.declared.Refusal.{Refusal}
 use Rattle.common.specs.Checks.{Finding, Check, check, unless, first_fault, each_from}
@@ -28,8 +28,8 @@ is_short (Whole t start next) = false
 -- 4: a field of record i breaks its rule; the first such field is the detail
 abbrev pub field_checks : ℕ → Rec → List Check
 field_checks i r =
-    let f : ℕ = broken_field r.table r.body in
-    check (not (eqb f 0)) FieldBroken i f ∷ []
+    let f : Option ℕ = broken_field r.table r.body in
+    check (is_some f) FieldBroken i (unwrap_or f 0) ∷ []
 
 -- 2 and 3: where the n whole records end, bytes are left whose mark is unknown (or one byte), or that are too few for their record
 abbrev pub end_checks : ℕ → List ℕ → List Check

@@ -25,11 +25,8 @@ pub fn first_pass(bundle: &[u8]) -> Result<usize, Refusal>
                 return Err(common::refuse(Reason::RecordShort, i, 0));
             }
             Step::Whole(table, start, next) => {
-                let field = layout::rows::broken_field(
-                    layout::rows::of_table(&rows, table),
-                    &bundle[start..next],
-                );
-                if field != 0 {
+                let own = layout::rows::of_table(&rows, table);
+                if let Some(field) = layout::rows::broken_field(own, &bundle[start..next]) {
                     return Err(common::refuse(Reason::FieldBroken, i, field));
                 }
                 at = next;

@@ -1,5 +1,6 @@
 -- One row of a walk over the rows of the code's table: the row is kept, or it is the first that is broken; or it is the one that is looked for.
 -- Assumes nothing.
+use Rattle.std.specs.Prelude.{Some, None}
 use Prim.Native.Nat.{ℕ, ◌+◌, ◌≤◌, ◌<◌}
 use mathlib.Core.Path.{◌≡◌}
 use mathlib.Core.Bool.{Bool, cond}
@@ -14,7 +15,7 @@ use Rattle.layout.specs.declared.rows.Row.{Row}
 
 module _ (rows : List Row) (k : ℕ) (d : Row) where
   pub broken_step : (kept : Row → Bool) (b : Bool) → k < length rows → b ≡ kept (get_or rows k d)
-      → first_broken kept (drop k rows) ≡ cond b (first_broken kept (drop (k + 1) rows)) (get_or rows k d).field
+      → first_broken kept (drop k rows) ≡ cond b (first_broken kept (drop (k + 1) rows)) (Some (get_or rows k d).field)
   unfolding first_broken
   broken_step kept b h f = rw (f, add-one, drop-cons rows k d h)
 
@@ -24,7 +25,7 @@ module _ (rows : List Row) (k : ℕ) (d : Row) where
   with_step p b h f = rw (← f, add-one, drop-cons rows k d h)
 
 module _ (rows : List Row) (k : ℕ) where
-  pub broken_end : (kept : Row → Bool) → length rows ≤ k → first_broken kept (drop k rows) ≡ 0
+  pub broken_end : (kept : Row → Bool) → length rows ≤ k → first_broken kept (drop k rows) ≡ None
   unfolding first_broken
   broken_end kept h = rw (drop_of_length-le rows h)
 

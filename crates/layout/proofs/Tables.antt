@@ -2,7 +2,7 @@
 -- a further block in the layout runs the tests again and changes no law.
 -- Assumes nothing.
 use Prim.Native.Nat.{ℕ, ◌+◌, ◌-◌, ◌*◌, ◌<◌}
-use Rattle.std.specs.Prelude.{Some, None, find}
+use Rattle.std.specs.Prelude.{Some, None, is_some, find}
 use mathlib.Core.Path.{◌≡◌, refl, sym, ap, ◌∙◌}
 use mathlib.Core.Bool.{Bool, true, false, cond, not, ◌&&◌, ◌||◌}
 use mathlib.Core.List.{List, [], ◌∷◌, map}
@@ -11,7 +11,7 @@ use denote.Enum.Bare.{same_true, true_same, false_same}
 use lib.Dec.{eqb, ltb}
 use lib.ListN.{length, take, drop}
 use lib.Seq.{drop-drop}
-use borrow.Author.Tests.{not-true, not-false, eqb-true, ltb-true, eq-eqb, ne_eqb}
+use borrow.Author.Tests.{not-true, not-false, eqb-true, eq-eqb, ne_eqb}
 use Rattle.common.specs.Least.{least}
 use Rattle.common.specs.Lists.{every, any, same, sum}
 use Rattle.common.specs.Ranks.{rank_of}
@@ -249,26 +249,19 @@ pub keeps_field : (t : Table) (f : ℕ) (body : List ℕ) → keeps_rules t body
 unfolding keeps_rules row_of
 keeps_field t f body k h = first_with_lem (λ r. eqb r.field f) (keeps_row t body) (table_at t).rows k h
 
--- and a record breaks no field, all of which have numbers above 0, exactly if it keeps every rule.
-abbrev numbered : List Row → Bool
-numbered rs = every (λ (r : Row). ltb 0 r.field) rs
-
-fields_numbered : (t : Table) → numbered (table_at t).rows ≡ true
-unfolding every table_at
-fields_numbered t = at_each (λ u. numbered (table_at u).rows) refl t
-
-unbroken : (kept : Row → Bool) (rs : List Row) → numbered rs ≡ true → eqb (first_broken kept rs) 0 ≡ every kept rs
+-- and a record breaks a field exactly if it does not keep every rule.
+unbroken : (kept : Row → Bool) (rs : List Row) → is_some (first_broken kept rs) ≡ not (every kept rs)
 unfolding first_broken every
-unbroken kept [] n = refl
-unbroken kept (r ∷ rs) n = let d = both_true (ltb 0 r.field) (numbered rs) n in go (kept r) d.0 (unbroken kept rs d.1)
+unbroken kept [] = refl
+unbroken kept (r ∷ rs) = go (kept r) (unbroken kept rs)
   where
-    go : (b : Bool) → ltb 0 r.field ≡ true → eqb (first_broken kept rs) 0 ≡ every kept rs → eqb (cond b (first_broken kept rs) r.field) 0 ≡ (b && every kept rs)
-    go true l e = e
-    go false l e = ne_eqb r.field 0 (λ z. omega (arith, ltb-true 0 r.field l))
+    go : (b : Bool) → is_some (first_broken kept rs) ≡ not (every kept rs) → is_some (cond b (first_broken kept rs) (Some r.field)) ≡ not (b && every kept rs)
+    go true e = e
+    go false e = refl
 
-pub unbroken_keeps : (t : Table) (body : List ℕ) → eqb (broken_field t body) 0 ≡ keeps_rules t body
+pub unbroken_keeps : (t : Table) (body : List ℕ) → is_some (broken_field t body) ≡ not (keeps_rules t body)
 unfolding broken_field keeps_rules
-unbroken_keeps t body = unbroken (keeps_row t body) (table_at t).rows (fields_numbered t)
+unbroken_keeps t body = unbroken (keeps_row t body) (table_at t).rows
 
 -- so its offer, its railway and its code are such numbers.
 module _ (t : Table) (o : of_offers t ≡ true) (body : List ℕ) (k : keeps_rules t body ≡ true) where

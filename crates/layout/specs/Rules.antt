@@ -1,6 +1,6 @@
 -- What each rule asks of a field, and the first field that breaks its rule (document 01, 'Values').
 -- Assumes nothing.
-use Rattle.std.specs.Prelude.{ℕ, ◌-◌, List, [], ◌∷◌, Bool, cond, ◌&&◌, ◌||◌, eqb, leb}
+use Rattle.std.specs.Prelude.{Option, Some, None, ℕ, ◌-◌, List, [], ◌∷◌, Bool, cond, ◌&&◌, ◌||◌, eqb, leb}
 use Rattle.common.specs.Lists.{every, byte_at}
 use Rattle.common.specs.Digits.{number_of, value_of, is_within}
 use Rattle.layout.specs.Bytes.{is_text, is_blank, byte_blank, byte_plus, byte_minus, byte_0, byte_N, byte_Y}
@@ -69,12 +69,12 @@ keeps_row t body row =
     kept_beside (bytes_of t (row.field - 1) body) (byte_of t (row.field - 1) body) (bytes_in (day_row is_first t) body) body row
 
 -- the field of the first of some rows that is not kept, 0 where all are
-unfoldable pub first_broken : (Row → Bool) → List Row → ℕ
-first_broken kept [] = 0
-first_broken kept (row ∷ rs) = cond (kept row) (first_broken kept rs) row.field
+unfoldable pub first_broken : (Row → Bool) → List Row → Option ℕ
+first_broken kept [] = None
+first_broken kept (row ∷ rs) = cond (kept row) (first_broken kept rs) (Some row.field)
 
 -- "fields from left to right": the first field that breaks its rule, 0 where none does
-unfoldable pub broken_field : Table → List ℕ → ℕ
+unfoldable pub broken_field : Table → List ℕ → Option ℕ
 broken_field t body = first_broken (keeps_row t body) (table_at t).rows
 
 -- every field keeps its rule

@@ -112,16 +112,16 @@ pub fn of_table(rows: &[Row; ROWS], table: Table) -> &[Row]
     }
 }
 
-// The field of the first row that a record breaks, 0 where it keeps them all.
-pub fn broken_field(rows: &[Row], body: &[u8]) -> usize
+// The field of the first row that a record breaks.
+pub fn broken_field(rows: &[Row], body: &[u8]) -> Option<usize>
     ensures { result ≡ first_broken (obeys_row body.now) rows.now }
 {
     for row in rows {
         if !obeys(row, body) {
-            return row.field as usize;
+            return Some(row.field as usize);
         }
     }
-    0
+    None
 }
 
 // The row of a field among some rows, all zeros where there is none.

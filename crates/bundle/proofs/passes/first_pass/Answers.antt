@@ -38,12 +38,12 @@ slice_bounds-broken_field-end c =
     let found : Stands (bundle-of) c.loop-at.at c.loop-at.i c.in-Whole.table c.in-Whole.start c.in-Whole.next = stands _ _ _ c.loop-at.invariant.0 c.step_at-here.ensures c.in-Whole.is in
     found.inside
 
-pub returns-then-field-ne0 : goal.returns-then-field-ne0
-returns-then-field-ne0 c =
+pub returns-in-Some : goal.returns-in-Some
+returns-in-Some c =
     let bundle-of : List ℕ = c.args.bundle.now in
     let found : Stands (bundle-of) c.loop-at.at c.loop-at.i c.in-Whole.table c.in-Whole.start c.in-Whole.next = stands _ _ _ c.loop-at.invariant.0 c.step_at-here.ensures c.in-Whole.is in
-    let broken : c.broken_field-field.result ≡ broken_field c.in-Whole.table (between c.in-Whole.start c.in-Whole.next (bundle-of)) = found_field _ _ c.all-rows.ensures c.of_table.ensures c.broken_field-field.ensures in
-    as_found _ (c.loop-at.invariant.1 ∙ field_fault _ _ _ c.loop-at.invariant.0 (found) (broken) c.if-field-ne0.true) c.refuse-then-field-ne0.ensures
+    let broken : c.broken_field.result ≡ broken_field c.in-Whole.table (between c.in-Whole.start c.in-Whole.next (bundle-of)) = found_field _ _ c.all-rows.ensures c.of_table-own.ensures c.broken_field.ensures in
+    as_found _ (c.loop-at.invariant.1 ∙ field_fault _ _ _ c.loop-at.invariant.0 (found) (broken) c.in-Some.is) c.refuse-in-Some.ensures
 
 pub overflow_add-i : goal.overflow_add-i
 overflow_add-i c =
@@ -61,8 +61,8 @@ pub loop-at-preserved : goal.loop-at-preserved
 loop-at-preserved c =
     let bundle-of : List ℕ = c.args.bundle.now in
     let found : Stands (bundle-of) c.loop-at.at c.loop-at.i c.in-Whole.table c.in-Whole.start c.in-Whole.next = stands _ _ _ c.loop-at.invariant.0 c.step_at-here.ensures c.in-Whole.is in
-    let broken : c.broken_field-field.result ≡ broken_field c.in-Whole.table (between c.in-Whole.start c.in-Whole.next (bundle-of)) = found_field _ _ c.all-rows.ensures c.of_table.ensures c.broken_field-field.ensures in
-    (found.then, c.loop-at.invariant.1 ∙ fields_pass _ _ _ c.loop-at.invariant.0 (found) (broken) c.if-field-ne0.false)
+    let broken : c.broken_field.result ≡ broken_field c.in-Whole.table (between c.in-Whole.start c.in-Whole.next (bundle-of)) = found_field _ _ c.all-rows.ensures c.of_table-own.ensures c.broken_field.ensures in
+    (found.then, c.loop-at.invariant.1 ∙ fields_pass _ _ _ c.loop-at.invariant.0 (found) (broken) c.in_default.is)
 
 pub returns : goal.returns
 returns c =
