@@ -14,6 +14,7 @@ pub fn first_transferor(bundle: &[u8]) -> &[u8]
 }
 
 // Whether two records may not stand together.
+#[tactic(auto, unfolding(crate::specs::Keys::clash))]
 pub fn clashes<'a>(t: Table, r: &'a [u8], u: Table, q: &'a [u8]) -> bool
     ensures { result ≡ clash (rec t r.now) (rec u q.now) }
 {

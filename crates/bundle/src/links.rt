@@ -58,6 +58,7 @@ fn link_at(k: usize) -> Link
 }
 
 // Whether a record wants what the link says.
+#[tactic(auto, unfolding(crate::specs::Links::is_asked))]
 fn asked(link: Link, table: Table, r: &[u8]) -> bool
     ensures { result ≡ is_asked link (rec table r.now) }
 {

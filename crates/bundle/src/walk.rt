@@ -36,6 +36,7 @@ fn two(low: u8, high: u8) -> u32
 }
 
 // The table that the mark at a place names, if it names one.
+#[tactic(auto, unfolding(crate::specs::Records::table_of, crate::specs::Helpers::is_mark, layout::specs::Layout::table_at))]
 pub fn table_at(bundle: &[u8], at: usize) -> Option<Table>
     ensures { result ≡ table_of (drop at bundle.now) }
 {
