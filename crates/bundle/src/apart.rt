@@ -19,6 +19,7 @@ fn clashes_at<'a>(bundle: &'a [u8], place: usize, table: Table, r: &'a [u8]) -> 
 }
 
 // Whether the record whose place is in a slot does. One whose tag is not that of the number is not looked at.
+#[tactic(auto, unfolding(crate::specs::Apart::slot_clashes))]
 fn slot_clashes<'a, 'b>(
     bundle: &'a [u8],
     heads: &'b [u8],

@@ -17,6 +17,7 @@ const TRIES: usize = 16;
 const STRIDE: u64 = 509;
 
 // What a record is looked for by: its code, or its offer.
+#[tactic(auto, unfolding(crate::specs::Hints::name_of))]
 fn name(coded: bool, table: Table, body: &[u8]) -> &[u8]
     ensures { result.now ≡ name_of coded table body.now }
 {
@@ -27,6 +28,7 @@ fn name(coded: bool, table: Table, body: &[u8]) -> &[u8]
 }
 
 // One number for the table that is wanted and what its record is looked for by, which a record of some table says.
+#[tactic(auto, unfolding(crate::specs::Hints::hint_number))]
 pub fn number(wants: Table, coded: bool, table: Table, body: &[u8]) -> u64
     ensures { result ≡ hint_number wants coded table body.now }
 {

@@ -72,6 +72,7 @@ fn asked(link: Link, table: Table, r: &[u8]) -> bool
 }
 
 // Whether the railway of q serves that of r: the same, or one of them is all railways.
+#[tactic(auto, unfolding(crate::specs::Links::railway_serves))]
 fn railway_serves<'a>(r: &'a [u8], q: &'a [u8]) -> bool
     ensures { result ≡ railway_serves r.now q.now }
 {
@@ -87,6 +88,7 @@ fn railway_serves<'a>(r: &'a [u8], q: &'a [u8]) -> bool
 }
 
 // Whether a record q is joined with the record r.
+#[tactic(auto, unfolding(crate::specs::Links::joins))]
 fn are_joined<'a>(join: Join, t: Table, r: &'a [u8], u: Table, q: &'a [u8]) -> bool
     ensures { result ≡ joins join (rec t r.now) (rec u q.now) }
 {
