@@ -16,26 +16,37 @@ use Rattle.fares.specs.Question.{no_leg, leg_in_limits, legs_of, card_slots, car
 use Rattle.fares.specs.Helpers.{trip_in_limits}
 use Rattle.fares.specs.declared.Question.{Question}
 use Rattle.fares.proofs.QuestionLimits.{limits_apart, trip_few}
-use Rattle.book.specs.Words.{more_pairs_at, more_pairs_width, railway_at, fare_at, third_at, fourth_at, question_width, leg_of, question_of, question_words, asked_at}
+use Rattle.book.specs.Words.{pairs_at, more_pairs_at, more_pairs_width, railway_at, fare_at, third_at, fourth_at, question_width, leg_of, question_of, question_words, asked_at}
 use Rattle.book.specs.Sound.{is_zero, asked_sound}
 use Rattle.book.specs.Meaning.{Used, till, sequence, offer, day, persons, card, count, railway, fare, part, status}
 use Rattle.book.specs.Helpers.{leg_clear, legs_clear, unused_zero}
 use Rattle.book.proofs.QuestionPlaces.{Unused, all_places, words_unused, places, used_again}
 use Rattle.book.proofs.QuestionWords.{words_length}
+use Rattle.book.proofs.Each.{all_in_range}
 use Rattle.book.proofs.SoundBook.{zero_from}
 
 module _ (ws : List ℕ) (n : ℕ) (long : length ws ≡ question_width) (few : n ≤ 8) where
   -- FOUND ZERO, it is
   module _ (e : unused_zero ws n ≡ true) where
+    each_zero : (is_zero (get_or ws pairs_at 0) ≡ true)
+        × (every is_zero (take more_pairs_width (drop more_pairs_at ws)) ≡ true)
+        × (every is_zero (drop (railway_at n) ws) ≡ true)
+        × (every (leg_clear ws) (up_to (λ j. j) n) ≡ true)
+    unfolding unused_zero
+    each_zero =
+        let a = both_true _ _ e in
+        let b = both_true _ _ a.0 in
+        let c = both_true _ _ b.0 in
+        (c.0, c.1, b.1, sym (all_in_range (leg_clear ws) (λ j. j) n) ∙ a.1)
+
     behind : (p : ℕ) → railway_at n ≤ p → get_or ws p 0 ≡ 0
     unfolding unused_zero
-    behind = zero_from ws (railway_at n) (every_at (λ b. b) _ e 2 true (omega arith))
+    behind = zero_from ws (railway_at n) each_zero.2
 
     in_leg : (k : ℕ) → k < n → (get_or ws (third_at k) 0 ≡ 0) × (get_or ws (fourth_at k) 0 ≡ 0)
     unfolding unused_zero
     in_leg k l =
-        let h : legs_clear ws n ≡ true = every_at (λ b. b) _ e 3 true (omega arith) in
-        let g : leg_clear ws (get_or (up_to (λ j. j) n) k 0) ≡ true = every_at (leg_clear ws) (up_to (λ j. j) n) h k 0 (rw (upto_length (λ (j : ℕ). j) n) l) in
+        let g : leg_clear ws (get_or (up_to (λ j. j) n) k 0) ≡ true = every_at (leg_clear ws) (up_to (λ j. j) n) each_zero.3 k 0 (rw (upto_length (λ (j : ℕ). j) n) l) in
         let f : leg_clear ws k ≡ true = rw (upto_at (λ (j : ℕ). j) n k 0 l) at g in
         let b = both_true (is_zero (get_or ws (third_at k) 0)) (is_zero (get_or ws (fourth_at k) 0)) f in
         (eqb-true _ 0 b.0, eqb-true _ 0 b.1)
@@ -44,9 +55,9 @@ module _ (ws : List ℕ) (n : ℕ) (long : length ws ≡ question_width) (few : 
     unfolding unused_zero
     found =
         record {
-          category = eqb-true _ 0 (every_at (λ b. b) _ e 0 true (omega arith));
+          category = eqb-true _ 0 each_zero.0;
           pairs = λ k l.
-              let h : every is_zero (take more_pairs_width (drop more_pairs_at ws)) ≡ true = every_at (λ b. b) _ e 1 true (omega arith) in
+              let h : every is_zero (take more_pairs_width (drop more_pairs_at ws)) ≡ true = each_zero.1 in
               sym (get_or-take more_pairs_width (drop more_pairs_at ws) k 0 l ∙ get_or-drop more_pairs_at ws k 0) ∙ zero_at (take more_pairs_width (drop more_pairs_at ws)) h k;
           third = λ k l. ⊎_elim (λ h. (in_leg k h).0) (λ h. behind (third_at k) (omega arith)) (side k n);
           fourth = λ k l. ⊎_elim (λ h. (in_leg k h).1) (λ h. behind (fourth_at k) (omega arith)) (side k n);
@@ -85,7 +96,8 @@ module _ (ws : List ℕ) (n : ℕ) (long : length ws ≡ question_width) (few : 
 
     legs_found : legs_clear ws n ≡ true
     legs_found =
-        every_by (leg_clear ws) 0 (up_to (λ j. j) n)
+        all_in_range (leg_clear ws) (λ j. j) n
+        ∙ every_by (leg_clear ws) 0 (up_to (λ j. j) n)
         (λ k l. let h : k < n = rw (upto_length (λ (j : ℕ). j) n) at l in
         let m : k < 8 = omega arith in
         rw (upto_at (λ (j : ℕ). j) n k 0 h, eq-eqb _ 0 (z.third k m), eq-eqb _ 0 (z.fourth k m)))

@@ -1,7 +1,8 @@
 -- Short names that contracts of inner functions and proofs use. Nothing here has to be believed: no contract of the engine's calls and no promise reaches it.
 -- Assumes nothing.
-use Rattle.std.specs.Prelude.{ℕ, ◌+◌, ◌*◌, ◌≤◌, ◌<◌, Bool, true, ◌&&◌, List, [], ◌∷◌, Option, Some, None, eqb, get_or, take, drop}
-use Rattle.common.specs.Lists.{every, up_to}
+use Rattle.std.specs.Prelude.{ℕ, ◌+◌, ◌*◌, ◌≤◌, ◌<◌, Bool, true, ◌&&◌, List, Option, Some, None, eqb, get_or, take, drop}
+use Rattle.std.specs.List.{list_all, range_with_len}
+use Rattle.common.specs.Lists.{every}
 use Rattle.book.specs.Words.{Entry, no_entry, pairs_at, more_pairs_at, more_pairs_width, railway_at, third_at, fourth_at}
 use Rattle.book.specs.Sound.{is_zero}
 use Rattle.book.specs.Amounts.{of_railway, of_all}
@@ -19,16 +20,14 @@ abbrev pub leg_clear : List ℕ → ℕ → Bool
 leg_clear ws j = is_zero (get_or ws (third_at j) 0) && is_zero (get_or ws (fourth_at j) 0)
 
 abbrev pub legs_clear : List ℕ → ℕ → Bool
-legs_clear ws n = every (leg_clear ws) (up_to (λ j. j) n)
+legs_clear ws n = list_all (leg_clear ws) (range_with_len 0 n)
 
 unfoldable pub unused_zero : List ℕ → ℕ → Bool
 unused_zero ws n =
-    every (λ b. b) (
-    is_zero (get_or ws pairs_at 0) ∷
-    every is_zero (take more_pairs_width (drop more_pairs_at ws)) ∷
-    every is_zero (drop (railway_at n) ws) ∷
-    legs_clear ws n ∷
-    [])
+    is_zero (get_or ws pairs_at 0)
+    && every is_zero (take more_pairs_width (drop more_pairs_at ws))
+    && every is_zero (drop (railway_at n) ws)
+    && legs_clear ws n
 
 -- WHAT COUNTS for a railway, and for all where none is named
 abbrev pub counts_for : Option ℕ → ℕ → Bool

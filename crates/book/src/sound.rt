@@ -1,6 +1,7 @@
 // When a book is sound, and a sale number within its limits.
-ghost use Rattle.std.specs.Prelude.{◌≡◌, ◌≤◌, map};
-ghost use Rattle.common.specs.Lists.{every, up_to};
+ghost use Rattle.std.specs.Prelude.{◌≡◌, ◌≤◌, ◌<◌, map};
+ghost use Rattle.std.specs.List.{list_all, range_with_len};
+ghost use Rattle.common.specs.Lists.{every};
 ghost use Rattle.fares.specs.Question.{leg_in_limits};
 ghost use Rattle.book.specs.Words.{leg_of, question_of, entry_of};
 ghost use Rattle.book.specs.Sound.{number_in_limits, asked_sound, entry_sound, sound_words};
@@ -17,17 +18,20 @@ pub fn is_number(till: u32, sequence: u64) -> bool
     matches!(till, 1..=65535) && matches!(sequence, 1..=4294967295)
 }
 
-// Whether the first legs that words say are within their limits.
+// Whether leg j that words say is within its limits.
+fn leg_in_limits(words: &[u32; QUESTION_WIDTH], j: usize) -> bool
+    requires { j < 8 }
+    ensures { result ≡ leg_in_limits (leg_of words.now j) }
+{
+    fares::limits::leg_in_limits(super::words::leg_in(words, j))
+}
+
+// Whether the first legs that they say are.
 fn legs_in_limits(words: &[u32; QUESTION_WIDTH], count: usize) -> bool
     requires { count ≤ 8 }
-    ensures { result ≡ every leg_in_limits (up_to (leg_of words.now) count) }
+    ensures { result ≡ list_all (λ j. leg_in_limits (leg_of words.now j)) (range_with_len 0 count) }
 {
-    for j in 0..count {
-        if !fares::limits::leg_in_limits(super::words::leg_in(words, j)) {
-            return false;
-        }
-    }
-    true
+    (0..count).all(|j| leg_in_limits(words, j))
 }
 
 // Whether words are sound, given the cards that they say. They are looked at where they stand: a question made of them would have to be written first.

@@ -1,9 +1,9 @@
 // The words of a book and of its entries: the one table of places, each of which follows from the widths before it.
 ghost use Rattle.std.specs.Prelude.{◌≡◌, ◌+◌, ◌≤◌, ◌<◌, length, take, drop};
 ghost use Rattle.common.specs.Lists.{every, same, up_to};
-ghost use Rattle.book.specs.Words.{question_width, railway_at, leg_at, leg_of, question_words, question_of};
+ghost use Rattle.book.specs.Words.{question_width, leg_at, leg_of, question_words, question_of};
 ghost use Rattle.book.specs.Sound.{is_zero, is_bounded};
-ghost use Rattle.book.specs.Helpers.{legs_clear, unused_zero};
+ghost use Rattle.book.specs.Helpers.{leg_clear, legs_clear, unused_zero};
 
 use fares::{Leg, Question};
 use std::array;
@@ -173,57 +173,33 @@ pub fn all_zero(words: &[u32]) -> bool
     all_bounded(words, 0)
 }
 
-// Whether two words of each of the first legs, which are kept zero, are.
+// Whether the two words of leg j that are kept zero are.
+fn leg_clear(words: &[u32; QUESTION_WIDTH], j: usize) -> bool
+    requires { j < 8 }
+    ensures { result ≡ leg_clear words.now j }
+{
+    let at = LEGS + LEG_WIDTH * j;
+    words[at + 2] == 0 && words[at + 3] == 0
+}
+
+// Whether those of each of the first legs are.
 fn legs_clear(words: &[u32; QUESTION_WIDTH], count: usize) -> bool
     requires { count ≤ 8 }
     ensures { result ≡ legs_clear words.now count }
 {
-    for j in 0..count {
-        let at = LEGS + LEG_WIDTH * j;
-        if words[at + 2] != 0 {
-            return false;
-        }
-        if words[at + 3] != 0 {
-            return false;
-        }
-    }
-    true
-}
-
-fn sum_of_four(first: u32, second: u32, third: u32, fourth: u32) -> u64
-    ensures { result ≡ first + second + third + fourth }
-{
-    first as u64 + second as u64 + third as u64 + fourth as u64
-}
-
-// Whether all words of the legs from one on are zero: a leg's four are added up at once.
-fn legs_zero(words: &[u32; QUESTION_WIDTH], first: usize) -> bool
-    requires { first ≤ 8 }
-    ensures { result ≡ every is_zero (drop (railway_at first) words.now) }
-{
-    let mut sum: u64 = 0;
-    for j in first..8 {
-        let at = LEGS + LEG_WIDTH * j;
-        sum += sum_of_four(words[at], words[at + 1], words[at + 2], words[at + 3]);
-    }
-    sum == 0
+    (0..count).all(|j| leg_clear(words, j))
 }
 
 // Whether what a question of so many legs does not use is zero.
+#[tactic(auto, unfolding(crate::specs::Helpers::unused_zero))]
 pub fn unused_zero(words: &[u32; QUESTION_WIDTH], count: usize) -> bool
     requires { count ≤ 8 }
     ensures { result ≡ unused_zero words.now count }
 {
-    if words[PAIRS] != 0 {
-        return false;
-    }
-    if !all_zero(&words[MORE_PAIRS..LEGS]) {
-        return false;
-    }
-    if !legs_zero(words, count) {
-        return false;
-    }
-    legs_clear(words, count)
+    words[PAIRS] == 0
+        && all_zero(&words[MORE_PAIRS..LEGS])
+        && all_zero(&words[LEGS + LEG_WIDTH * count..])
+        && legs_clear(words, count)
 }
 
 // The N words from a place on, where they stand.

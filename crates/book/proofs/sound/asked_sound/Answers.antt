@@ -2,9 +2,10 @@
 -- Assumes nothing.
 use Rattle.std.proofs.Common.{◌∙◌, sym, ap}
 use Rattle.common.specs.Lists.{first_of}
-use Rattle.fares.specs.Question.{cards_in_limits, cards_differ}
+use Rattle.fares.specs.Question.{leg_in_limits, cards_in_limits, cards_differ}
 use Rattle.fares.proofs.QuestionLimits.{trip_few}
-use Rattle.book.specs.Words.{question_of}
+use Rattle.book.specs.Words.{leg_of, question_of}
+use Rattle.book.proofs.Each.{all_in_range}
 use Rattle.book.proofs.UnusedWords.{sound_tests}
 use Rattle.book.proofs.sound.asked_sound.Goals as goal
 
@@ -51,4 +52,4 @@ returns c =
     let cards = sym (c.cards_in_limits.ensures ∙ ap (λ s. cards_in_limits (first_of 0 4 s)) c.requires) ∙ c.if-not-cards_in_limits.false in
     let differ = sym (c.cards_differ.ensures ∙ ap (λ s. cards_differ (first_of 0 4 s)) c.requires) ∙ c.if-not-cards_differ.false in
     let unused = sym c.unused_zero.ensures ∙ c.if-not-unused_zero.false in
-    c.legs_in_limits.ensures ∙ sym (sound_tests c.args.words.now c.told-words ∙ rw (trip, cards, differ, unused))
+    c.legs_in_limits.ensures ∙ all_in_range leg_in_limits (leg_of c.args.words.now) _ ∙ sym (sound_tests c.args.words.now c.told-words ∙ rw (trip, cards, differ, unused))
