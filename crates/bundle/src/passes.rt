@@ -61,15 +61,15 @@ pub fn second_pass(
             break 'records Err(common::refuse(Reason::OtherTransferor, i, 0));
         }
         let mut p = 0;
-        let mut j = 0;
+        let mut first = 0;
         if is_kept {
             is_kept = super::apart::is_apart(bundle, heads, lows, table, r, at);
         }
         if is_kept {
             p = at;
-            j = i;
+            first = i;
         }
-        while j < i {
+        for j in first..i {
             let there = super::walk::step_at(bundle, p);
             // every record before this one was whole, so that this is never reached
             let Step::Whole(t, s, e) = there else {
@@ -79,7 +79,6 @@ pub fn second_pass(
                 break 'records Err(common::refuse(Reason::KeyRepeated, i, j));
             }
             p = e;
-            j += 1;
         }
         if let Some(link) = super::links::missing_link(bundle, hints, table, r) {
             break 'records Err(common::refuse(Reason::LinkMissing, i, link.detail));

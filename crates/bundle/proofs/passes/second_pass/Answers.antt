@@ -58,8 +58,8 @@ loop-j-init c =
       | else-is_kept w ↦ λ t. never (sym w.is_kept-is ∙ t) w.if-is_kept.false
     ] in
     elim c.if-is_kept-2.branch [
-      | then-is_kept-2 w ↦ rw (w.p-is, w.j-is) (c.records.invariant.0, omega arith, (told w.if-is_kept-2.true).0)
-      | else-is_kept-2 w ↦ rw (w.p-is, w.j-is) (here_start _, omega arith, none_yet _)
+      | then-is_kept-2 w ↦ rw (w.p-is, w.first-is) (c.records.invariant.0, omega arith, (told w.if-is_kept-2.true).0)
+      | else-is_kept-2 w ↦ rw (w.p-is, w.first-is) (here_start _, omega arith, none_yet _)
     ]
 
 pub slice_bounds-clashes-count : goal.slice_bounds-clashes-count
@@ -79,12 +79,6 @@ slice_bounds-clashes-end c =
     let bundle-of : List ℕ = c.args.bundle.now in
     let found-2 : Stands (bundle-of) c.loop-j.p c.loop-j.j c.in-Whole-there.t c.in-Whole-there.s c.in-Whole-there.e = stands _ _ _ c.loop-j.invariant.0 c.step_at-there.ensures c.in-Whole-there.is in
     found-2.inside
-
-pub overflow_add-j : goal.overflow_add-j
-overflow_add-j c =
-    let bundle-of : List ℕ = c.args.bundle.now in
-    let found-2 : Stands (bundle-of) c.loop-j.p c.loop-j.j c.in-Whole-there.t c.in-Whole-there.s c.in-Whole-there.e = stands _ _ _ c.loop-j.invariant.0 c.step_at-there.ensures c.in-Whole-there.is in
-    omega (arith, found-2.starts, found-2.ends, found-2.inside, c.loop-j.invariant.0.counted)
 
 pub loop-j-preserved : goal.loop-j-preserved
 loop-j-preserved c =

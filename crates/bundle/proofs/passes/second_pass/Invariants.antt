@@ -19,9 +19,6 @@ use Rattle.bundle.proofs.passes.second_pass.Given as goal
 abbrev pub invariant-loop-j : goal.invariant-loop-j
 invariant-loop-j l = Here l.bundle l.p l.j × (l.j ≤ l.i) × (least (λ k. clash (rec l.table l.r) (get_or (records_of l.bundle) k no_rec)) l.j ≡ l.j)
 
-abbrev pub decreases-loop-j : goal.decreases-loop-j
-decreases-loop-j l = l.i - l.j
-
 abbrev pub invariant-records : goal.invariant-records
 invariant-records l =
     Here l.bundle l.at l.i × (first_fault (second_pass (records_of l.bundle)) ≡ second_from (records_of l.bundle) l.i) × (l.is_kept ≡ true → Kept l.bundle l.heads l.lows l.i)
