@@ -1,4 +1,6 @@
 // Readers of a record's fields. Each says what it reads; the positions are those of the table of rows.
+#![tactic(auto, unfolding(crate::specs::Fields::transferor_of, crate::specs::Fields::offer_of, crate::specs::Fields::railway_of, crate::specs::Fields::is_yes, crate::specs::Fields::number_in, crate::specs::Fields::byte_of, crate::specs::Fields::bytes_of, crate::specs::Fields::grant_in, crate::specs::Fields::row_of, crate::specs::Fields::row_with, crate::specs::Helpers::code_span, crate::specs::Helpers::key_length, crate::specs::Helpers::key_number, crate::specs::Layout::table_at, common::specs::Lists::sum))]
+
 ghost use Rattle.std.specs.Prelude.{◌≡◌};
 ghost use Rattle.common.specs.Digits.{number_of, value_of};
 ghost use Rattle.layout.specs.Layout.{CO as inCO, AR as inAR};

@@ -54,6 +54,7 @@ impl TryFrom<u32> for Table {
 
 // The length of a table's records without their mark. A `match`, because a constant array would be built anew at each call, and the
 // searches call this at every step.
+#[tactic(auto, unfolding(crate::specs::Layout::length_of, crate::specs::Layout::end_of, crate::specs::Layout::table_at))]
 pub fn length_of(table: Table) -> usize
     ensures { result ≡ length_of table }
 {

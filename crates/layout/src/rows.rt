@@ -101,6 +101,7 @@ pub fn all() -> [Row; ROWS]
 }
 
 // The rows of a table among all.
+#[tactic(auto, unfolding(crate::specs::Helpers::first_row, common::specs::Lists::sum, crate::specs::Layout::table_at))]
 pub fn of_table(rows: &[Row; ROWS], table: Table) -> &[Row]
     ensures { result.now ≡ take (length (table_at table).rows) (drop (first_row table) rows.now) }
 {

@@ -1,9 +1,0 @@
--- `layout::fields::offer` meets its contract: antt computes where the row stands.
--- Assumes nothing.
-use Rattle.layout.specs.Layout.{table_at}
-use Rattle.layout.specs.Fields.{row_with, row_of, bytes_of, offer_of}
-use Rattle.layout.proofs.fields.offer.Goals as goal
-
-pub returns : goal.returns
-unfolding offer_of bytes_of row_of row_with table_at
-returns c = c.field.ensures
