@@ -97,11 +97,7 @@ pub fn note_all(bundle: &[u8], hints: &mut [u32])
     ensures { Hinted bundle.now hints.new }
 {
     let mut at = 0;
-    loop {
-        let here = super::walk::step_at(bundle, at);
-        let Step::Whole(table, start, next) = here else {
-            return;
-        };
+    while let Step::Whole(table, start, next) = super::walk::step_at(bundle, at) {
         note(hints, table, &bundle[start..next], at);
         at = next;
     }

@@ -121,11 +121,7 @@ fn first_served<'a>(bundle: &'a [u8], link: Link, table: Table, r: &'a [u8]) -> 
     ensures { SearchTells bundle.now link (rec table r.now) result }
 {
     let mut at = 0;
-    loop {
-        let here = super::walk::step_at(bundle, at);
-        let Step::Whole(t, start, next) = here else {
-            return None;
-        };
+    while let Step::Whole(t, start, next) = super::walk::step_at(bundle, at) {
         // the table first: most records are of another, and are passed without a call
         if t == link.wants {
             if are_joined(link.join, table, r, t, &bundle[start..next]) {
@@ -134,6 +130,7 @@ fn first_served<'a>(bundle: &'a [u8], link: Link, table: Table, r: &'a [u8]) -> 
         }
         at = next;
     }
+    None
 }
 
 // The place of one among the next few records from a place on, around the bundle's end.

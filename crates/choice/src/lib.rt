@@ -95,11 +95,7 @@ pub fn choose(bundle: &[u8], wanted: Wanted) -> Choice
 {
     let mut chosen = Choice::Nothing;
     let mut at = 0;
-    loop {
-        let here = bundle::walk::step_at(bundle, at);
-        let Step::Whole(table, start, next) = here else {
-            return chosen;
-        };
+    while let Step::Whole(table, start, next) = bundle::walk::step_at(bundle, at) {
         let f = fit(wanted, table, &bundle[start..next]);
         if let Role::Own = f {
             return Choice::At(at);
@@ -107,4 +103,5 @@ pub fn choose(bundle: &[u8], wanted: Wanted) -> Choice
         chosen = noted(chosen, f, at);
         at = next;
     }
+    chosen
 }

@@ -14,47 +14,47 @@ use Rattle.choice.proofs.choose.Goals as goal
 pub loop-table-init : goal.loop-table-init
 loop-table-init c = (0, here_start _, none_yet _, standing_start _ _)
 
-pub returns-in_default : goal.returns-in_default
-returns-in_default c =
+pub returns : goal.returns
+returns c =
     let i = c.loop-table.invariant in
-    let o = over_there _ _ c.step_at-here.result c.in_default.not-Whole c.step_at-here.ensures in
+    let o = over_there _ _ c.step_at.result c.in_default.not-Whole c.step_at.ensures in
     i.3 ∙ none_met _ _ i.0 (over_count _ _ _ i.1 o) i.2
 
 pub slice_bounds-fit-count : goal.slice_bounds-fit-count
 slice_bounds-fit-count c =
     let bundle-of : List ℕ = c.args.bundle.now in
-    let found : Stands (bundle-of) c.loop-table.at c.loop-table.invariant.0 c.in-Whole.table c.in-Whole.start c.in-Whole.next = stands _ _ _ c.loop-table.invariant.1 c.step_at-here.ensures c.in-Whole.is in
+    let found : Stands (bundle-of) c.loop-table.at c.loop-table.invariant.0 c.in-Whole.table c.in-Whole.start c.in-Whole.next = stands _ _ _ c.loop-table.invariant.1 c.step_at.ensures c.in-Whole.is in
     found.ends
 
 pub slice_bounds-fit-start : goal.slice_bounds-fit-start
 slice_bounds-fit-start c =
     let bundle-of : List ℕ = c.args.bundle.now in
-    let found : Stands (bundle-of) c.loop-table.at c.loop-table.invariant.0 c.in-Whole.table c.in-Whole.start c.in-Whole.next = stands _ _ _ c.loop-table.invariant.1 c.step_at-here.ensures c.in-Whole.is in
+    let found : Stands (bundle-of) c.loop-table.at c.loop-table.invariant.0 c.in-Whole.table c.in-Whole.start c.in-Whole.next = stands _ _ _ c.loop-table.invariant.1 c.step_at.ensures c.in-Whole.is in
     omega (arith, found.ends, found.inside)
 
 pub slice_bounds-fit-end : goal.slice_bounds-fit-end
 slice_bounds-fit-end c =
     let bundle-of : List ℕ = c.args.bundle.now in
-    let found : Stands (bundle-of) c.loop-table.at c.loop-table.invariant.0 c.in-Whole.table c.in-Whole.start c.in-Whole.next = stands _ _ _ c.loop-table.invariant.1 c.step_at-here.ensures c.in-Whole.is in
+    let found : Stands (bundle-of) c.loop-table.at c.loop-table.invariant.0 c.in-Whole.table c.in-Whole.start c.in-Whole.next = stands _ _ _ c.loop-table.invariant.1 c.step_at.ensures c.in-Whole.is in
     found.inside
 
 pub returns-in-Own : goal.returns-in-Own
 returns-in-Own c =
     let bundle-of : List ℕ = c.args.bundle.now in
-    let found : Stands (bundle-of) c.loop-table.at c.loop-table.invariant.0 c.in-Whole.table c.in-Whole.start c.in-Whole.next = stands _ _ _ c.loop-table.invariant.1 c.step_at-here.ensures c.in-Whole.is in
+    let found : Stands (bundle-of) c.loop-table.at c.loop-table.invariant.0 c.in-Whole.table c.in-Whole.start c.in-Whole.next = stands _ _ _ c.loop-table.invariant.1 c.step_at.ensures c.in-Whole.is in
     let i = c.loop-table.invariant in
     own_met _ _ _ i.0 (found) i.2 (rw found.at (fits_own _ _ c.fit-f.ensures c.in-Own.is))
 
 pub loop-table-smaller : goal.loop-table-smaller
 loop-table-smaller c =
     let bundle-of : List ℕ = c.args.bundle.now in
-    let found : Stands (bundle-of) c.loop-table.at c.loop-table.invariant.0 c.in-Whole.table c.in-Whole.start c.in-Whole.next = stands _ _ _ c.loop-table.invariant.1 c.step_at-here.ensures c.in-Whole.is in
+    let found : Stands (bundle-of) c.loop-table.at c.loop-table.invariant.0 c.in-Whole.table c.in-Whole.start c.in-Whole.next = stands _ _ _ c.loop-table.invariant.1 c.step_at.ensures c.in-Whole.is in
     let w = found in omega (arith, w.starts, w.ends, w.inside)
 
 pub loop-table-preserved : goal.loop-table-preserved
 loop-table-preserved c =
     let bundle-of : List ℕ = c.args.bundle.now in
-    let found : Stands (bundle-of) c.loop-table.at c.loop-table.invariant.0 c.in-Whole.table c.in-Whole.start c.in-Whole.next = stands _ _ _ c.loop-table.invariant.1 c.step_at-here.ensures c.in-Whole.is in
+    let found : Stands (bundle-of) c.loop-table.at c.loop-table.invariant.0 c.in-Whole.table c.in-Whole.start c.in-Whole.next = stands _ _ _ c.loop-table.invariant.1 c.step_at.ensures c.in-Whole.is in
     let i = c.loop-table.invariant in
     let n = c.in_default-f.not-Own in (
       i.0 + 1,

@@ -10,31 +10,31 @@ use Rattle.bundle.proofs.hints.note_all.Goals as goal
 pub loop-table-init : goal.loop-table-init
 loop-table-init c = (0, here_start _, c.requires, refl)
 
-pub returns-in_default : goal.returns-in_default
-returns-in_default c = c.loop-table.invariant.2
+pub returns : goal.returns
+returns c = c.loop-table.invariant.2
 
 pub slice_bounds-note-count : goal.slice_bounds-note-count
 slice_bounds-note-count c =
-    let found : Stands c.args.bundle.now c.loop-table.at c.loop-table.invariant.0 c.in-Whole.table c.in-Whole.start c.in-Whole.next = stands _ _ _ c.loop-table.invariant.1 c.step_at-here.ensures c.in-Whole.is in
+    let found : Stands c.args.bundle.now c.loop-table.at c.loop-table.invariant.0 c.in-Whole.table c.in-Whole.start c.in-Whole.next = stands _ _ _ c.loop-table.invariant.1 c.step_at.ensures c.in-Whole.is in
     found.ends
 
 pub slice_bounds-note-start : goal.slice_bounds-note-start
 slice_bounds-note-start c =
-    let found : Stands c.args.bundle.now c.loop-table.at c.loop-table.invariant.0 c.in-Whole.table c.in-Whole.start c.in-Whole.next = stands _ _ _ c.loop-table.invariant.1 c.step_at-here.ensures c.in-Whole.is in
+    let found : Stands c.args.bundle.now c.loop-table.at c.loop-table.invariant.0 c.in-Whole.table c.in-Whole.start c.in-Whole.next = stands _ _ _ c.loop-table.invariant.1 c.step_at.ensures c.in-Whole.is in
     let w = found in omega (arith, w.ends, w.inside)
 
 pub slice_bounds-note-end : goal.slice_bounds-note-end
 slice_bounds-note-end c =
-    let found : Stands c.args.bundle.now c.loop-table.at c.loop-table.invariant.0 c.in-Whole.table c.in-Whole.start c.in-Whole.next = stands _ _ _ c.loop-table.invariant.1 c.step_at-here.ensures c.in-Whole.is in
+    let found : Stands c.args.bundle.now c.loop-table.at c.loop-table.invariant.0 c.in-Whole.table c.in-Whole.start c.in-Whole.next = stands _ _ _ c.loop-table.invariant.1 c.step_at.ensures c.in-Whole.is in
     found.inside
 
 pub loop-table-smaller : goal.loop-table-smaller
 loop-table-smaller c =
-    let found : Stands c.args.bundle.now c.loop-table.at c.loop-table.invariant.0 c.in-Whole.table c.in-Whole.start c.in-Whole.next = stands _ _ _ c.loop-table.invariant.1 c.step_at-here.ensures c.in-Whole.is in
+    let found : Stands c.args.bundle.now c.loop-table.at c.loop-table.invariant.0 c.in-Whole.table c.in-Whole.start c.in-Whole.next = stands _ _ _ c.loop-table.invariant.1 c.step_at.ensures c.in-Whole.is in
     let w = found in omega (arith, w.starts, w.ends, w.inside)
 
 pub loop-table-preserved : goal.loop-table-preserved
 loop-table-preserved c =
-    let found : Stands c.args.bundle.now c.loop-table.at c.loop-table.invariant.0 c.in-Whole.table c.in-Whole.start c.in-Whole.next = stands _ _ _ c.loop-table.invariant.1 c.step_at-here.ensures c.in-Whole.is in
+    let found : Stands c.args.bundle.now c.loop-table.at c.loop-table.invariant.0 c.in-Whole.table c.in-Whole.start c.in-Whole.next = stands _ _ _ c.loop-table.invariant.1 c.step_at.ensures c.in-Whole.is in
     let i = c.loop-table.invariant in
     (i.0 + 1, found.then, c.note.ensures c.args.bundle.now (i.0, found.place) i.2, search rules)
