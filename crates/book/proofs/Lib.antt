@@ -1,4 +1,5 @@
 pub mod Each
+pub mod AlikeWords
 pub mod ComparedWords
 pub mod QuestionPlaces
 pub mod QuestionWords

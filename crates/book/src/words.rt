@@ -1,5 +1,6 @@
 // The words of a book and of its entries: the one table of places, each of which follows from the widths before it.
-ghost use Rattle.std.specs.Prelude.{◌≡◌, ◌+◌, ◌≤◌, ◌<◌, length, take, drop};
+ghost use Rattle.std.specs.Prelude.{◌≡◌, ◌+◌, ◌≤◌, ◌<◌, ◌==◌, length, take, drop};
+ghost use Rattle.std.specs.List.{count_by, zip};
 ghost use Rattle.common.specs.Lists.{every, same, up_to};
 ghost use Rattle.book.specs.Words.{question_width, leg_at, leg_of, question_words, question_of};
 ghost use Rattle.book.specs.Sound.{is_zero, is_bounded};
@@ -142,18 +143,18 @@ pub fn question_in(words: &[u32; QUESTION_WIDTH]) -> Question
     }
 }
 
+// How many words of two questions are the same, place by place.
+fn alike(words: &[u32; QUESTION_WIDTH], own: &[u32; QUESTION_WIDTH]) -> usize
+    ensures { result ≡ count_by (λ p. p.0 == p.1) (zip words.now own.now) }
+{
+    words.iter().zip(own).filter(|(a, b)| **a == **b).count()
+}
+
 // Whether words are those of a question: as many are alike as there are, which a processor counts several at a time.
 pub fn says(words: &[u32; QUESTION_WIDTH], q: Question) -> bool
     ensures { result ≡ same words.now (question_words q) }
 {
-    let own = question_words(q);
-    let mut alike: u32 = 0;
-    for k in 0..QUESTION_WIDTH {
-        if words[k] == own[k] {
-            alike += 1;
-        }
-    }
-    alike as usize == QUESTION_WIDTH
+    alike(words, &question_words(q)) == QUESTION_WIDTH
 }
 
 // Whether no word is above a bound. No early way out, as in `layout::rules::text`.
