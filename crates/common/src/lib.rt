@@ -1,7 +1,7 @@
 // Searches, lists and refusals that every later crate cites. But for the reasons of a refusal nothing here knows of railways.
 #![tactic(auto)]
 
-ghost use Rattle.std.specs.Prelude.{◌≡◌, ◌+◌, ◌-◌, ◌<◌, ◌≤◌, ◌&&◌, length, take, drop, Some};
+ghost use Rattle.std.specs.Prelude.{◌≡◌, ◌+◌, ◌-◌, ◌<◌, ◌≤◌, length, take, drop, Some};
 ghost use Rattle.common.specs.Lists.{same, byte_at};
 ghost use Rattle.common.specs.Digits.{digit_of, number_of, is_within};
 ghost use Rattle.common.specs.Ranks.{rank_of, rank_limit};
@@ -44,15 +44,6 @@ pub fn refuse(reason: Reason, place: usize, detail: usize) -> Refusal
         place,
         detail,
     }
-}
-
-pub fn both(a: bool, b: bool) -> bool
-    ensures { result ≡ (a && b) }
-{
-    if a {
-        return b;
-    }
-    false
 }
 
 // The `len` bytes from `start` on, or as many of them as there are.
