@@ -12,44 +12,44 @@ use Rattle.book.proofs.sound.asked_sound.Goals as goal
 pub returns-then-not-trip_in_limits : goal.returns-then-not-trip_in_limits
 unfolding question_of
 returns-then-not-trip_in_limits c =
-    let trip = sym c.trip_in_limits.ensures ∙ c.if-not-trip_in_limits.true in
+    let trip = sym c.if-not-trip_in_limits.ensures in
     sym (sound_tests c.args.words.now c.told-words ∙ rw trip)
 
 pub returns-then-not-cards_in_limits : goal.returns-then-not-cards_in_limits
 unfolding question_of
 returns-then-not-cards_in_limits c =
-    let trip = sym c.trip_in_limits.ensures ∙ c.if-not-trip_in_limits.false in
-    let cards = sym (c.cards_in_limits.ensures ∙ ap (λ s. cards_in_limits (first_of 0 4 s)) c.requires) ∙ c.if-not-cards_in_limits.true in
+    let trip = sym c.if-not-trip_in_limits.ensures in
+    let cards = sym (c.if-not-cards_in_limits.ensures ∙ ap (λ s. cards_in_limits (first_of 0 4 s)) c.requires) in
     sym (sound_tests c.args.words.now c.told-words ∙ rw (trip, cards))
 
 pub returns-then-not-cards_differ : goal.returns-then-not-cards_differ
 unfolding question_of
 returns-then-not-cards_differ c =
-    let trip = sym c.trip_in_limits.ensures ∙ c.if-not-trip_in_limits.false in
-    let cards = sym (c.cards_in_limits.ensures ∙ ap (λ s. cards_in_limits (first_of 0 4 s)) c.requires) ∙ c.if-not-cards_in_limits.false in
-    let differ = sym (c.cards_differ.ensures ∙ ap (λ s. cards_differ (first_of 0 4 s)) c.requires) ∙ c.if-not-cards_differ.true in
+    let trip = sym c.if-not-trip_in_limits.ensures in
+    let cards = sym (c.if-not-cards_in_limits.ensures ∙ ap (λ s. cards_in_limits (first_of 0 4 s)) c.requires) in
+    let differ = sym (c.if-not-cards_differ.ensures ∙ ap (λ s. cards_differ (first_of 0 4 s)) c.requires) in
     sym (sound_tests c.args.words.now c.told-words ∙ rw (trip, cards, differ))
 
 pub unused_zero-requires : goal.unused_zero-requires
-unused_zero-requires c = trip_few _ _ _ _ (sym c.trip_in_limits.ensures ∙ c.if-not-trip_in_limits.false)
+unused_zero-requires c = trip_few _ _ _ _ (sym c.if-not-trip_in_limits.ensures)
 
 pub returns-then-not-unused_zero : goal.returns-then-not-unused_zero
 unfolding question_of
 returns-then-not-unused_zero c =
-    let trip = sym c.trip_in_limits.ensures ∙ c.if-not-trip_in_limits.false in
-    let cards = sym (c.cards_in_limits.ensures ∙ ap (λ s. cards_in_limits (first_of 0 4 s)) c.requires) ∙ c.if-not-cards_in_limits.false in
-    let differ = sym (c.cards_differ.ensures ∙ ap (λ s. cards_differ (first_of 0 4 s)) c.requires) ∙ c.if-not-cards_differ.false in
-    let unused = sym c.unused_zero.ensures ∙ c.if-not-unused_zero.true in
+    let trip = sym c.if-not-trip_in_limits.ensures in
+    let cards = sym (c.if-not-cards_in_limits.ensures ∙ ap (λ s. cards_in_limits (first_of 0 4 s)) c.requires) in
+    let differ = sym (c.if-not-cards_differ.ensures ∙ ap (λ s. cards_differ (first_of 0 4 s)) c.requires) in
+    let unused = sym c.if-not-unused_zero.ensures in
     sym (sound_tests c.args.words.now c.told-words ∙ rw (trip, cards, differ, unused))
 
 pub legs_in_limits-requires : goal.legs_in_limits-requires
-legs_in_limits-requires c = trip_few _ _ _ _ (sym c.trip_in_limits.ensures ∙ c.if-not-trip_in_limits.false)
+legs_in_limits-requires c = trip_few _ _ _ _ (sym c.if-not-trip_in_limits.ensures)
 
 pub returns : goal.returns
 unfolding question_of
 returns c =
-    let trip = sym c.trip_in_limits.ensures ∙ c.if-not-trip_in_limits.false in
-    let cards = sym (c.cards_in_limits.ensures ∙ ap (λ s. cards_in_limits (first_of 0 4 s)) c.requires) ∙ c.if-not-cards_in_limits.false in
-    let differ = sym (c.cards_differ.ensures ∙ ap (λ s. cards_differ (first_of 0 4 s)) c.requires) ∙ c.if-not-cards_differ.false in
-    let unused = sym c.unused_zero.ensures ∙ c.if-not-unused_zero.false in
+    let trip = sym c.if-not-trip_in_limits.ensures in
+    let cards = sym (c.if-not-cards_in_limits.ensures ∙ ap (λ s. cards_in_limits (first_of 0 4 s)) c.requires) in
+    let differ = sym (c.if-not-cards_differ.ensures ∙ ap (λ s. cards_differ (first_of 0 4 s)) c.requires) in
+    let unused = sym c.if-not-unused_zero.ensures in
     c.legs_in_limits.ensures ∙ all_in_range leg_in_limits (leg_of c.args.words.now) _ ∙ sym (sound_tests c.args.words.now c.told-words ∙ rw (trip, cards, differ, unused))

@@ -15,10 +15,10 @@ returns-then-not-entry_sound c =
     (every_mapped entry_sound entry_of es
     ∙ refuted _
     (λ e. never (every_at (λ ws. entry_sound (entry_of ws)) es e c.loop-words.words-index [] c.loop-words-test.true)
-    (sym c.entry_sound.ensures ∙ c.if-not-entry_sound.true)))
+    (sym c.if-not-entry_sound.ensures)))
 
 pub loop-words-preserved : goal.loop-words-preserved
-loop-words-preserved c = below_more _ _ c.loop-words.invariant (sym c.entry_sound.ensures ∙ c.if-not-entry_sound.false)
+loop-words-preserved c = below_more _ _ c.loop-words.invariant (sym c.if-not-entry_sound.ensures)
 
 pub returns : goal.returns
 returns c =

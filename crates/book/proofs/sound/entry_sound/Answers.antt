@@ -27,57 +27,57 @@ bounds e f g = g ∙ (ap (λ cs. part_bound (length (only is_given (first_of 0 4
 pub returns-then-not-is_number : goal.returns-then-not-is_number
 unfolding entry_sound every
 returns-then-not-is_number c =
-    let number = sym c.is_number.ensures ∙ c.if-not-is_number.true in
+    let number = sym c.if-not-is_number.ensures in
     rw number
 
 pub returns-then-not-asked_sound : goal.returns-then-not-asked_sound
 unfolding entry_sound every
 returns-then-not-asked_sound c =
-    let number = sym c.is_number.ensures ∙ c.if-not-is_number.false in
-    let asked = sym (c.asked_sound.ensures ∙ ap asked_sound c.block-asked.ensures) ∙ c.if-not-asked_sound.true in
+    let number = sym c.if-not-is_number.ensures in
+    let asked = sym (c.if-not-asked_sound.ensures ∙ ap asked_sound c.block-asked.ensures) in
     rw (number, asked)
 
 pub returns-then-not-all_bounded : goal.returns-then-not-all_bounded
 unfolding entry_sound every
 returns-then-not-all_bounded c =
-    let number = sym c.is_number.ensures ∙ c.if-not-is_number.false in
-    let asked = sym (c.asked_sound.ensures ∙ ap asked_sound c.block-asked.ensures) ∙ c.if-not-asked_sound.false in
-    let bounded = sym (c.all_bounded.ensures ∙ ap (λ b. is_bounded b (entry_of c.args.words.now).parts) (bounds c.block-asked.ensures c.cards_in-cards.ensures c.part_bound.ensures)) ∙ c.if-not-all_bounded.true in
+    let number = sym c.if-not-is_number.ensures in
+    let asked = sym (c.if-not-asked_sound.ensures ∙ ap asked_sound c.block-asked.ensures) in
+    let bounded = sym (c.if-not-all_bounded.ensures ∙ ap (λ b. is_bounded b (entry_of c.args.words.now).parts) (bounds c.block-asked.ensures c.cards_in-cards.ensures c.part_bound.ensures)) in
     rw (number, asked, bounded)
 
 pub slice_bounds-all_zero-count : goal.slice_bounds-all_zero-count
 slice_bounds-all_zero-count c =
-    let asked = sym (c.asked_sound.ensures ∙ ap asked_sound c.block-asked.ensures) ∙ c.if-not-asked_sound.false in
+    let asked = sym (c.if-not-asked_sound.ensures ∙ ap asked_sound c.block-asked.ensures) in
     omega (arith, few c.args.words.now asked)
 
 pub slice_bounds-all_zero-start : goal.slice_bounds-all_zero-start
 slice_bounds-all_zero-start c =
-    let asked = sym (c.asked_sound.ensures ∙ ap asked_sound c.block-asked.ensures) ∙ c.if-not-asked_sound.false in
+    let asked = sym (c.if-not-asked_sound.ensures ∙ ap asked_sound c.block-asked.ensures) in
     omega (arith, few c.args.words.now asked)
 
 pub returns-then-not-all_zero : goal.returns-then-not-all_zero
 unfolding entry_sound every
 returns-then-not-all_zero c =
-    let number = sym c.is_number.ensures ∙ c.if-not-is_number.false in
-    let asked = sym (c.asked_sound.ensures ∙ ap asked_sound c.block-asked.ensures) ∙ c.if-not-asked_sound.false in
-    let bounded = sym (c.all_bounded.ensures ∙ ap (λ b. is_bounded b (entry_of c.args.words.now).parts) (bounds c.block-asked.ensures c.cards_in-cards.ensures c.part_bound.ensures)) ∙ c.if-not-all_bounded.false in
-    let unused = sym (c.all_zero.ensures ∙ behind c.args.words.now asked) ∙ c.if-not-all_zero.true in
+    let number = sym c.if-not-is_number.ensures in
+    let asked = sym (c.if-not-asked_sound.ensures ∙ ap asked_sound c.block-asked.ensures) in
+    let bounded = sym (c.if-not-all_bounded.ensures ∙ ap (λ b. is_bounded b (entry_of c.args.words.now).parts) (bounds c.block-asked.ensures c.cards_in-cards.ensures c.part_bound.ensures)) in
+    let unused = sym (c.if-not-all_zero.ensures ∙ behind c.args.words.now asked) in
     rw (number, asked, bounded, unused)
 
 pub returns-then-words-gt1 : goal.returns-then-words-gt1
 unfolding entry_sound every
 returns-then-words-gt1 c =
-    let number = sym c.is_number.ensures ∙ c.if-not-is_number.false in
-    let asked = sym (c.asked_sound.ensures ∙ ap asked_sound c.block-asked.ensures) ∙ c.if-not-asked_sound.false in
-    let bounded = sym (c.all_bounded.ensures ∙ ap (λ b. is_bounded b (entry_of c.args.words.now).parts) (bounds c.block-asked.ensures c.cards_in-cards.ensures c.part_bound.ensures)) ∙ c.if-not-all_bounded.false in
-    let unused = sym (c.all_zero.ensures ∙ behind c.args.words.now asked) ∙ c.if-not-all_zero.false in
+    let number = sym c.if-not-is_number.ensures in
+    let asked = sym (c.if-not-asked_sound.ensures ∙ ap asked_sound c.block-asked.ensures) in
+    let bounded = sym (c.if-not-all_bounded.ensures ∙ ap (λ b. is_bounded b (entry_of c.args.words.now).parts) (bounds c.block-asked.ensures c.cards_in-cards.ensures c.part_bound.ensures)) in
+    let unused = sym (c.if-not-all_zero.ensures ∙ behind c.args.words.now asked) in
     rw (number, asked, bounded, unused, lt-leb _ 1 c.if-words-gt1.true)
 
 pub returns : goal.returns
 unfolding entry_sound every
 returns c =
-    let number = sym c.is_number.ensures ∙ c.if-not-is_number.false in
-    let asked = sym (c.asked_sound.ensures ∙ ap asked_sound c.block-asked.ensures) ∙ c.if-not-asked_sound.false in
-    let bounded = sym (c.all_bounded.ensures ∙ ap (λ b. is_bounded b (entry_of c.args.words.now).parts) (bounds c.block-asked.ensures c.cards_in-cards.ensures c.part_bound.ensures)) ∙ c.if-not-all_bounded.false in
-    let unused = sym (c.all_zero.ensures ∙ behind c.args.words.now asked) ∙ c.if-not-all_zero.false in
+    let number = sym c.if-not-is_number.ensures in
+    let asked = sym (c.if-not-asked_sound.ensures ∙ ap asked_sound c.block-asked.ensures) in
+    let bounded = sym (c.if-not-all_bounded.ensures ∙ ap (λ b. is_bounded b (entry_of c.args.words.now).parts) (bounds c.block-asked.ensures c.cards_in-cards.ensures c.part_bound.ensures)) in
+    let unused = sym (c.if-not-all_zero.ensures ∙ behind c.args.words.now asked) in
     rw (number, asked, bounded, unused, le-leb _ 1 c.if-words-gt1.false, c.all_zero-2.ensures, and-true)

@@ -23,7 +23,7 @@ unfolding sound_words every entries
 returns-then-not-entries_sound c =
     let w = c.args.book.now in
     let e = ap (map entry_of) c.first-entries.ensures ∙ first_entries w (count_of w) in
-    let each = sym (c.entries_sound.ensures ∙ ap (every entry_sound) e) ∙ c.if-not-entries_sound.true in
+    let each = sym (c.if-not-entries_sound.ensures ∙ ap (every entry_sound) e) in
     rw (eq-eqb _ _ c.if-book-ne-LENGTH.false, le-leb _ _ c.if-count-gt-CAPACITY.false, each)
 
 pub returns-then-not-numbers_differ : goal.returns-then-not-numbers_differ
@@ -31,8 +31,8 @@ unfolding sound_words every entries
 returns-then-not-numbers_differ c =
     let w = c.args.book.now in
     let e = ap (map entry_of) c.first-entries.ensures ∙ first_entries w (count_of w) in
-    let each = sym (c.entries_sound.ensures ∙ ap (every entry_sound) e) ∙ c.if-not-entries_sound.false in
-    let differ = sym (c.numbers_differ.ensures ∙ ap numbers_differ e) ∙ c.if-not-numbers_differ.true in
+    let each = sym (c.if-not-entries_sound.ensures ∙ ap (every entry_sound) e) in
+    let differ = sym (c.if-not-numbers_differ.ensures ∙ ap numbers_differ e) in
     rw (eq-eqb _ _ c.if-book-ne-LENGTH.false, le-leb _ _ c.if-count-gt-CAPACITY.false, each, differ)
 
 pub returns : goal.returns
@@ -40,8 +40,8 @@ unfolding sound_words every entries
 returns c =
     let w = c.args.book.now in
     let e = ap (map entry_of) c.first-entries.ensures ∙ first_entries w (count_of w) in
-    let each = sym (c.entries_sound.ensures ∙ ap (every entry_sound) e) ∙ c.if-not-entries_sound.false in
-    let differ = sym (c.numbers_differ.ensures ∙ ap numbers_differ e) ∙ c.if-not-numbers_differ.false in
+    let each = sym (c.if-not-entries_sound.ensures ∙ ap (every entry_sound) e) in
+    let differ = sym (c.if-not-numbers_differ.ensures ∙ ap numbers_differ e) in
     let n = c.if-book-ne-LENGTH.false in
     let at = start_of (count_of w) in
     rw (eq-eqb _ _ c.if-book-ne-LENGTH.false, le-leb _ _ c.if-count-gt-CAPACITY.false, each, differ, and-true)
