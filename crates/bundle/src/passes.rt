@@ -5,6 +5,7 @@ ghost use Rattle.bundle.specs.Hints.{Hinted};
 
 use super::walk::Step;
 use common::{Reason, Refusal};
+use seen::Slots;
 
 // Each record by itself: 2, then 3, then 4. What it keeps on the stack is free again before the second pass takes its room there.
 #[inline(never)]
@@ -38,12 +39,7 @@ pub fn first_pass(bundle: &[u8]) -> Result<usize, Refusal>
 }
 
 // Each record beside the others: 5, then 6, then 7, before the next record.
-pub fn second_pass(
-    bundle: &[u8],
-    heads: &mut [u8],
-    lows: &mut [u16],
-    hints: &mut [u32],
-) -> Result<usize, Refusal>
+pub fn second_pass(bundle: &[u8], mut slots: Slots, hints: &mut [u32]) -> Result<usize, Refusal>
     requires { Hinted bundle.now hints.old }
     ensures { result ≡ second_tells bundle.now }
 {
@@ -63,7 +59,7 @@ pub fn second_pass(
         let mut p = 0;
         let mut first = 0;
         if is_kept {
-            is_kept = super::apart::is_apart(bundle, heads, lows, table, r, at);
+            is_kept = super::apart::is_apart(bundle, &mut slots, table, r, at);
         }
         if is_kept {
             p = at;

@@ -4,6 +4,7 @@ ghost use Rattle.std.specs.Prelude.{◌≡◌, ◌<◌, ◌^◌};
 ghost use Rattle.bundle.specs.Helpers.{second_tells};
 
 use common::Refusal;
+use seen::Slots;
 
 // Up to so many records have little room, and none for hints; up to so many some, and up to so many more.
 const FEW: usize = 32;
@@ -41,5 +42,9 @@ fn with_room<const SLOTS: usize, const HINTS: usize>(bundle: &[u8]) -> Result<us
     if HINTS != 0 {
         super::hints::note_all(bundle, &mut hints);
     }
-    super::passes::second_pass(bundle, &mut heads, &mut lows, &mut hints)
+    let slots = Slots {
+        heads: &mut heads,
+        lows: &mut lows,
+    };
+    super::passes::second_pass(bundle, slots, &mut hints)
 }

@@ -41,26 +41,6 @@ pub fn slot_behind(slots: usize, slot: usize) -> usize
     }
 }
 
-// The head of a slot, 0 where there is none.
-pub fn head_at(heads: &[u8], slot: usize) -> u8
-    ensures { result ≡ get_or heads.now slot 0 }
-{
-    heads.get(slot).copied().unwrap_or(0)
-}
-
-fn low_at(lows: &[u16], slot: usize) -> u16
-    ensures { result ≡ get_or lows.now slot 0 }
-{
-    lows.get(slot).copied().unwrap_or(0)
-}
-
-// The value in a slot.
-pub fn value_at<'a>(heads: &'a [u8], lows: &'a [u16], slot: usize) -> usize
-    ensures { result ≡ value_at heads.now lows.now slot }
-{
-    head_at(heads, slot) as usize / STEP * LOWS + low_at(lows, slot) as usize
-}
-
 fn tag_of(number: u64) -> usize
     ensures { result ≡ tag_of number }
 {
@@ -74,20 +54,50 @@ pub fn has_tag(head: u8, number: u64) -> bool
     head as usize % STEP == tag_of(number)
 }
 
-// Puts a value under a number into a slot, and tells whether there is room for it.
-pub fn put(heads: &mut [u8], lows: &mut [u16], slot: usize, number: u64, value: usize) -> bool
-    ensures { IsPut heads.old lows.old slot number value result heads.new lows.new }
-{
-    if heads.len() <= slot {
-        return false;
+// The slots of a table, in room that is lent: their heads, and beside them their low parts, so that a slot takes three bytes.
+#[derive(Drop)]
+pub struct Slots<'a> {
+    pub heads: &'a mut [u8],
+    pub lows: &'a mut [u16],
+}
+
+impl<'a> Slots<'a> {
+    // The head of a slot, 0 where there is none.
+    pub fn head(&self, slot: usize) -> u8
+        ensures { result ≡ get_or self.now.heads.now slot 0 }
+    {
+        self.heads.get(slot).copied().unwrap_or(0)
     }
-    if lows.len() <= slot {
-        return false;
+
+    fn low(&self, slot: usize) -> u16
+        ensures { result ≡ get_or self.now.lows.now slot 0 }
+    {
+        self.lows.get(slot).copied().unwrap_or(0)
     }
-    if VALUES <= value {
-        return false;
+
+    // The value in a slot.
+    pub fn value(&self, slot: usize) -> usize
+        ensures { result ≡ value_at self.now.heads.now self.now.lows.now slot }
+    {
+        self.head(slot) as usize / STEP * LOWS + self.low(slot) as usize
     }
-    heads[slot] = (value / LOWS * STEP + tag_of(number)) as u8;
-    lows[slot] = (value % LOWS) as u16;
-    true
+
+    // Puts a value under a number into a slot, and tells whether there is room for it.
+    pub fn put(&mut self, slot: usize, number: u64, value: usize) -> bool
+        ensures put { IsPut self.old.heads.now self.old.lows.now slot number value result self.new.heads.now self.new.lows.now }
+        ensures same_reference { (self.new.heads.ghost_name ≡ self.old.heads.ghost_name) × (self.new.lows.ghost_name ≡ self.old.lows.ghost_name) }
+    {
+        if self.heads.len() <= slot {
+            return false;
+        }
+        if self.lows.len() <= slot {
+            return false;
+        }
+        if VALUES <= value {
+            return false;
+        }
+        self.heads[slot] = (value / LOWS * STEP + tag_of(number)) as u8;
+        self.lows[slot] = (value % LOWS) as u16;
+        true
+    }
 }

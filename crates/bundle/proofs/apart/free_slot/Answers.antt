@@ -11,13 +11,13 @@ pub loop-init : goal.loop-init
 unfolding slot_of
 loop-init c = (c.home-slot.ensures, λ j l. absurd (omega arith))
 
-pub returns-then-head_at-eq0 : goal.returns-then-head_at-eq0
-returns-then-head_at-eq0 c =
+pub returns-then-head-eq0 : goal.returns-then-head-eq0
+returns-then-head-eq0 c =
     let l = c.loop in
-    (l.counter, l.invariant.0, sym c.head_at.ensures ∙ c.if-head_at-eq0.true, l.invariant.1)
+    (l.counter, l.invariant.0, sym c.head.ensures ∙ c.if-head-eq0.true, l.invariant.1)
 
 pub loop-preserved : goal.loop-preserved
 loop-preserved c =
     let l = c.loop in
     let a = c.args in
-    way_on a.bundle.now a.heads.now a.lows.now a.number (rec a.table a.r.now) l.slot l.counter l.invariant.0 l.invariant.1 c.head_at.ensures c.if-head_at-eq0.false c.slot_clashes.ensures c.if-slot_clashes.false c.slot_behind-slot.ensures
+    way_on a.bundle.now a.slots.now.heads.now a.slots.now.lows.now a.number (rec a.table a.r.now) l.slot l.counter l.invariant.0 l.invariant.1 c.head.ensures c.if-head-eq0.false c.slot_clashes.ensures c.if-slot_clashes.false c.slot_behind-slot.ensures

@@ -8,4 +8,4 @@ use Rattle.bundle.specs.Apart.{Passed}
 use Rattle.bundle.proofs.apart.free_slot.Given as goal
 
 abbrev pub invariant-loop : goal.invariant-loop
-invariant-loop l = (l.slot ≡ slot_of (length l.heads) l.number l.counter) × Passed l.bundle l.heads l.lows l.number (rec l.table l.r) l.counter
+invariant-loop l = (l.slot ≡ slot_of (length l.slots.heads.now) l.number l.counter) × Passed l.bundle l.slots.heads.now l.slots.lows.now l.number (rec l.table l.r) l.counter

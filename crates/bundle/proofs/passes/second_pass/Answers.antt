@@ -24,7 +24,7 @@ use Rattle.bundle.proofs.passes.second_pass.Goals as goal
 use Rattle.bundle.proofs.passes.second_pass.Goals.{then-is_kept, else-is_kept, then-is_kept-2, else-is_kept-2}
 
 pub records-init : goal.records-init
-records-init c = (here_start _, second_start _, (λ t j l. absurd (omega arith)), c.requires, refl, refl, refl)
+records-init c = (here_start _, second_start _, (λ t j l. absurd (omega arith)), c.requires, refl)
 
 pub slice_bounds-r-count : goal.slice_bounds-r-count
 slice_bounds-r-count c =
@@ -50,11 +50,11 @@ loop-j-init c =
     let bundle-of : List ℕ = c.args.bundle.now in
     let lent : Rec = rec c.in-Whole.table (between c.in-Whole.start c.in-Whole.next (bundle-of)) in
     let found : Stands (bundle-of) c.records.at c.records.i c.in-Whole.table c.in-Whole.start c.in-Whole.next = stands _ _ _ c.records.invariant.0 c.step_at-here.ensures c.in-Whole.is in
-    let told : c.if-is_kept.is_kept ≡ true → (least (λ j. clash (lent) (get_or (records_of (bundle-of)) j no_rec)) c.records.i ≡ c.records.i) × Kept (bundle-of) c.if-is_kept.heads c.if-is_kept.lows (c.records.i + 1) =
+    let told : c.if-is_kept.is_kept ≡ true → (least (λ j. clash (lent) (get_or (records_of (bundle-of)) j no_rec)) c.records.i ≡ c.records.i) × Kept (bundle-of) c.if-is_kept.slots.heads.now c.if-is_kept.slots.lows.now (c.records.i + 1) =
     elim c.if-is_kept.branch [
       | then-is_kept w ↦
-          rw (w.heads-is, w.lows-is)
-          (λ t. w.is_apart-is_kept.ensures (sym w.is_kept-is ∙ t) c.records.i found.below found.at found.place (c.records.invariant.2 w.if-is_kept.true))
+          rw w.slots-is
+          (λ t. w.is_apart-is_kept.ensures.told (sym w.is_kept-is ∙ t) c.records.i found.below found.at found.place (c.records.invariant.2 w.if-is_kept.true))
       | else-is_kept w ↦ λ t. never (sym w.is_kept-is ∙ t) w.if-is_kept.false
     ] in
     elim c.if-is_kept-2.branch [
@@ -113,15 +113,15 @@ records-preserved c =
     let apart : earlier_of (records_of (bundle-of)) c.records.i (lent) ≡ c.records.i = let e : c.loop-j.j ≡ c.records.i = omega arith in
     rw e at c.loop-j.invariant.2 in
     let same_transferor : other_transferor (records_of (bundle-of)) (lent) ≡ false = transferor ∙ c.if-not-same_bytes.false-raw in
-    let told : c.if-is_kept.is_kept ≡ true → (least (λ j. clash (lent) (get_or (records_of (bundle-of)) j no_rec)) c.records.i ≡ c.records.i) × Kept (bundle-of) c.if-is_kept.heads c.if-is_kept.lows (c.records.i + 1) =
+    let told : c.if-is_kept.is_kept ≡ true → (least (λ j. clash (lent) (get_or (records_of (bundle-of)) j no_rec)) c.records.i ≡ c.records.i) × Kept (bundle-of) c.if-is_kept.slots.heads.now c.if-is_kept.slots.lows.now (c.records.i + 1) =
     elim c.if-is_kept.branch [
       | then-is_kept w ↦
-          rw (w.heads-is, w.lows-is)
-          (λ t. w.is_apart-is_kept.ensures (sym w.is_kept-is ∙ t) c.records.i found.below found.at found.place (c.records.invariant.2 w.if-is_kept.true))
+          rw w.slots-is
+          (λ t. w.is_apart-is_kept.ensures.told (sym w.is_kept-is ∙ t) c.records.i found.below found.at found.place (c.records.invariant.2 w.if-is_kept.true))
       | else-is_kept w ↦ λ t. never (sym w.is_kept-is ∙ t) w.if-is_kept.false
     ] in
     let q = record_passes _ c.records.i (lent) found.cons (same_transferor) (omega (arith, apart)) (omega (arith, c.in_default-missing_link.ensures.0)) in
-    (found.then, c.records.invariant.1 ∙ q, (λ t. (told t).1), c.in_default-missing_link.ensures.1, search rules, search rules, search rules)
+    (found.then, c.records.invariant.1 ∙ q, (λ t. (told t).1), c.in_default-missing_link.ensures.1, search rules)
 
 pub returns-in_default : goal.returns-in_default
 returns-in_default c =

@@ -21,8 +21,8 @@ invariant-loop-j l = Here l.bundle l.p l.j × (l.j ≤ l.i) × (least (λ k. cla
 
 abbrev pub invariant-records : goal.invariant-records
 invariant-records l =
-    Here l.bundle l.at l.i × (first_fault (second_pass (records_of l.bundle)) ≡ second_from (records_of l.bundle) l.i) × (l.is_kept ≡ true → Kept l.bundle l.heads l.lows l.i)
-    × Hinted l.bundle l.hints × (length l.heads ≡ length l.initial.heads) × (length l.lows ≡ length l.initial.lows) × (length l.hints ≡ length l.initial.hints)
+    Here l.bundle l.at l.i × (first_fault (second_pass (records_of l.bundle)) ≡ second_from (records_of l.bundle) l.i) × (l.is_kept ≡ true → Kept l.bundle l.slots.heads.now l.slots.lows.now l.i)
+    × Hinted l.bundle l.hints × (length l.hints ≡ length l.initial.hints)
 
 abbrev pub decreases-records : goal.decreases-records
 decreases-records l = length l.bundle - l.at
