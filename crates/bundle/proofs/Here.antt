@@ -72,7 +72,7 @@ places_alike (suc k) p s = go (step_of s) (λ n. places_alike k (p + n) (drop n 
     go Short f = refl
     go (Whole t start next) f = ap suc (f next)
 
-places_length : (s : List ℕ) → length (places_of s) ≡ length (records_of s)
+pub places_length : (s : List ℕ) → length (places_of s) ≡ length (records_of s)
 unfolding places_of records_of
 places_length s = places_alike (length s) 0 s
 

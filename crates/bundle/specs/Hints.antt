@@ -1,6 +1,6 @@
 -- Where the verdict looks for a link's record first. Nothing here has to be believed: no promise and no answer of a call is stated with it.
 -- Assumes nothing.
-use Rattle.std.specs.Prelude.{ℕ, ◌+◌, ◌*◌, ◌%◌, ◌<◌, ◌≡◌, Bool, true, false, cond, List, Option, MatchOption, get_or}
+use Rattle.std.specs.Prelude.{ℕ, ◌+◌, ◌*◌, ◌%◌, ◌<◌, ◌≡◌, Bool, true, false, cond, List, ◌∷◌, ◌==◌, Option, MatchOption, get_or}
 use Rattle.common.specs.Lists.{any}
 use Rattle.common.specs.Ranks.{rank_of}
 use Rattle.layout.specs.Fields.{offer_of, code_of}
@@ -14,7 +14,7 @@ use Rattle.bundle.specs.declared.links.Link.{Link}
 
 -- PLACES of records, or the bundle's start
 abbrev pub IsPlace : List ℕ → ℕ → Type 0
-IsPlace s p = (i : ℕ) × (get_or (places_of s) i 0 ≡ p)
+IsPlace s p = any (λ q. p == q) (0 ∷ places_of s) ≡ true
 
 -- a hint is such a place, below this, and above it a tag of the number that the record is looked for by
 abbrev pub place_limit : ℕ
@@ -25,10 +25,6 @@ place_in hint = hint % place_limit
 
 abbrev pub Hinted : List ℕ → List ℕ → Type 0
 Hinted s hints = (k : ℕ) → IsPlace s (place_in (get_or hints k 0))
-
--- a change of hints that a place may be among
-abbrev pub KeepsHints : ℕ → List ℕ → List ℕ → Type 0
-KeepsHints p before after = (s : List ℕ) → IsPlace s p → Hinted s before → Hinted s after
 
 -- a record is looked for by its code, or by its offer; one number for the table that is wanted and that
 unfoldable pub name_of : Bool → Table → List ℕ → List ℕ

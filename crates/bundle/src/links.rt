@@ -3,8 +3,9 @@ ghost use Rattle.std.specs.Prelude.{◌≡◌, get_or, IfSome};
 ghost use Rattle.common.specs.Lists.{any};
 ghost use Rattle.bundle.specs.Records.{records_of, rec};
 ghost use Rattle.bundle.specs.Links.{link as link_of, link_rows, no_link, is_asked, railway_serves, joins, serves, lacks};
-ghost use Rattle.bundle.specs.Hints.{IsPlace, Hinted, serves_at, Found, SearchTells, LinkTells};
+ghost use Rattle.bundle.specs.Hints.{IsPlace, serves_at, Found, SearchTells, LinkTells};
 
+use super::hints::Hints;
 use super::walk::Step;
 use layout::Table;
 
@@ -167,53 +168,46 @@ fn served<'a>(bundle: &'a [u8], link: Link, table: Table, r: &'a [u8], last: usi
 
 // Whether some record of the bundle is one that a record of a table wants by link k. It is looked for first where a hint says, if there is room for any;
 // where one of link k was last found is the hint that stands in slot k.
-fn is_served<'a>(bundle: &'a [u8], hints: &mut [u32], table: Table, r: &'a [u8], k: usize) -> bool
-    requires { Hinted bundle.now hints.old }
-    ensures { (result ≡ any (serves (get_or link_rows k no_link) (rec table r.now)) (records_of bundle.now)) × Hinted bundle.now hints.new }
+fn is_served(hints: &mut Hints<'_>, table: Table, r: &[u8], k: usize) -> bool
+    ensures { (result ≡ any (serves (get_or link_rows k no_link) (rec table r.now)) (records_of hints.old.bundle.now)) × (hints.new.bundle.now ≡ hints.old.bundle.now) }
 {
     let link = link_at(k);
-    if hints.is_empty() {
+    let bundle = hints.bundle;
+    if hints.places.len() == 0 {
         return first_served(bundle, link, table, r).is_some();
     }
     let number = super::hints::number(link.wants, link.join == Join::ByCode, table, r);
-    let slot = super::hints::slot_of(hints, number);
-    let hint = super::hints::place_at(hints, slot);
+    let slot = hints.slot_of(number);
+    let hint = hints.place_at(slot);
     if serves_at(bundle, link, table, r, hint) {
-        super::hints::put(hints, k, k as u64, hint);
+        hints.put(k, k as u64, hint);
         return true;
     }
-    let last = super::hints::place_at(hints, k);
+    let last = hints.place_at(k);
     let Some(place) = served(bundle, link, table, r, last) else {
         return false;
     };
-    super::hints::put(hints, slot, number, place);
-    super::hints::put(hints, k, k as u64, place);
+    hints.put(slot, number, place);
+    hints.put(k, k as u64, place);
     true
 }
 
 // Whether a record of a table wants link k, and none of the bundle serves.
-fn lacks_link<'a>(bundle: &'a [u8], hints: &mut [u32], table: Table, r: &'a [u8], k: usize) -> bool
-    requires { Hinted bundle.now hints.old }
-    ensures { (result ≡ lacks (records_of bundle.now) (rec table r.now) k) × Hinted bundle.now hints.new }
+fn lacks_link(hints: &mut Hints<'_>, table: Table, r: &[u8], k: usize) -> bool
+    ensures { (result ≡ lacks (records_of hints.old.bundle.now) (rec table r.now) k) × (hints.new.bundle.now ≡ hints.old.bundle.now) }
 {
     if !asked(link_at(k), table, r) {
         return false;
     }
-    !is_served(bundle, hints, table, r, k)
+    !is_served(hints, table, r, k)
 }
 
 // The first link that a record of a table lacks.
-pub fn missing_link<'a>(
-    bundle: &'a [u8],
-    hints: &mut [u32],
-    table: Table,
-    r: &'a [u8],
-) -> Option<Link>
-    requires { Hinted bundle.now hints.old }
-    ensures { LinkTells (records_of bundle.now) (rec table r.now) result × Hinted bundle.now hints.new }
+pub fn missing_link(hints: &mut Hints<'_>, table: Table, r: &[u8]) -> Option<Link>
+    ensures { LinkTells (records_of hints.old.bundle.now) (rec table r.now) result × (hints.new.bundle.now ≡ hints.old.bundle.now) }
 {
     for k in 0..LINKS {
-        if lacks_link(bundle, hints, table, r, k) {
+        if lacks_link(hints, table, r, k) {
             return Some(link_at(k));
         }
     }

@@ -1,8 +1,8 @@
 // The two passes over a bundle's records.
 ghost use Rattle.std.specs.Prelude.{◌≡◌};
 ghost use Rattle.bundle.specs.Helpers.{first_tells, second_tells};
-ghost use Rattle.bundle.specs.Hints.{Hinted};
 
+use super::hints::Hints;
 use super::walk::Step;
 use common::{Reason, Refusal};
 use seen::Slots;
@@ -39,10 +39,10 @@ pub fn first_pass(bundle: &[u8]) -> Result<usize, Refusal>
 }
 
 // Each record beside the others: 5, then 6, then 7, before the next record.
-pub fn second_pass(bundle: &[u8], mut slots: Slots, hints: &mut [u32]) -> Result<usize, Refusal>
-    requires { Hinted bundle.now hints.old }
-    ensures { result ≡ second_tells bundle.now }
+pub fn second_pass(hints: &mut Hints<'_>, mut slots: Slots) -> Result<usize, Refusal>
+    ensures { result ≡ second_tells hints.old.bundle.now }
 {
+    let bundle = hints.bundle;
     let transferor = super::keys::first_transferor(bundle);
     let mut is_kept = true;
     let mut at = 0;
@@ -76,7 +76,7 @@ pub fn second_pass(bundle: &[u8], mut slots: Slots, hints: &mut [u32]) -> Result
             }
             p = e;
         }
-        if let Some(link) = super::links::missing_link(bundle, hints, table, r) {
+        if let Some(link) = super::links::missing_link(hints, table, r) {
             break 'records Err(common::refuse(Reason::LinkMissing, i, link.detail));
         }
         at = next;

@@ -38,13 +38,17 @@ fn with_room<const SLOTS: usize, const HINTS: usize>(bundle: &[u8]) -> Result<us
 {
     let mut heads = [0u8; SLOTS];
     let mut lows = [0u16; SLOTS];
-    let mut hints = [0u32; HINTS];
+    let mut places = [0u32; HINTS];
+    let mut hints = super::hints::Hints {
+        bundle,
+        places: &mut places,
+    };
     if HINTS != 0 {
-        super::hints::note_all(bundle, &mut hints);
+        hints.note_all();
     }
     let slots = Slots {
         heads: &mut heads,
         lows: &mut lows,
     };
-    super::passes::second_pass(bundle, slots, &mut hints)
+    super::passes::second_pass(&mut hints, slots)
 }

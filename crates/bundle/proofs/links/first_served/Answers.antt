@@ -10,6 +10,7 @@ use Rattle.common.proofs.Lists.{at_any}
 use Rattle.bundle.specs.Records.{rec, no_rec, between, records_of}
 use Rattle.bundle.specs.Links.{serves}
 use Rattle.bundle.proofs.Here.{Stands, here_start, stands, over_there, over_nil}
+use Rattle.bundle.proofs.HintedPlaces.{is_place}
 use Rattle.bundle.proofs.links.first_served.Goals as goal
 
 pub loop-t-init : goal.loop-t-init
@@ -43,7 +44,7 @@ returns-then-are_joined c =
     let found : Stands c.args.bundle.now c.loop-t.at c.loop-t.invariant.0 c.in-Whole.t c.in-Whole.start c.in-Whole.next = stands _ _ _ c.loop-t.invariant.1 c.step_at.ensures c.in-Whole.is in
     let w = found in
     let i = c.loop-t.invariant in
-    ((i.0, w.place), at_any _ no_rec _ i.0 w.below (rw w.at (rw (sym c.eq.ensures ∙ c.if-eq.true) (sym c.are_joined.ensures ∙ c.if-are_joined.true))))
+    (is_place _ i.0 _ w.below w.place, at_any _ no_rec _ i.0 w.below (rw w.at (rw (sym c.eq.ensures ∙ c.if-eq.true) (sym c.are_joined.ensures ∙ c.if-are_joined.true))))
 
 pub loop-t-smaller-else-are_joined : goal.loop-t-smaller-else-are_joined
 loop-t-smaller-else-are_joined c =

@@ -10,7 +10,6 @@ use Rattle.common.specs.Least.{least}
 use Rattle.bundle.specs.Records.{rec, no_rec, records_of}
 use Rattle.bundle.specs.Keys.{clash}
 use Rattle.bundle.specs.Verdict.{second_pass}
-use Rattle.bundle.specs.Hints.{Hinted}
 use Rattle.bundle.specs.Apart.{Kept}
 use Rattle.bundle.proofs.Here.{Here}
 use Rattle.bundle.proofs.PassLaws.{second_from}
@@ -22,7 +21,7 @@ invariant-loop-j l = Here l.bundle l.p l.j × (l.j ≤ l.i) × (least (λ k. cla
 abbrev pub invariant-records : goal.invariant-records
 invariant-records l =
     Here l.bundle l.at l.i × (first_fault (second_pass (records_of l.bundle)) ≡ second_from (records_of l.bundle) l.i) × (l.is_kept ≡ true → Kept l.bundle l.slots.heads.now l.slots.lows.now l.i)
-    × Hinted l.bundle l.hints × (length l.hints ≡ length l.initial.hints)
+    × (l.hints.bundle.now ≡ l.bundle)
 
 abbrev pub decreases-records : goal.decreases-records
 decreases-records l = length l.bundle - l.at
