@@ -54,7 +54,7 @@ pub fn has_tag(head: u8, number: u64) -> bool
     head as usize % STEP == tag_of(number)
 }
 
-// The slots of a table, in room that is lent: their heads, and beside them their low parts, so that a slot takes three bytes.
+// The slots of a table, in room that is lent. Heads and low parts lie in arrays of their own: together in one they would take four bytes a slot, not three.
 #[derive(Drop)]
 pub struct Slots<'a> {
     pub heads: &'a mut [u8],
