@@ -1,7 +1,7 @@
 // Where a record is looked for first. A hint is the place of some record, seen there before it is believed; above the place stands a tag of the number that
 // the record is looked for by, so that hints for several numbers can stand behind each other.
 ghost use Rattle.std.specs.Prelude.{◌≡◌, get_or};
-ghost use Rattle.bundle.specs.Hints.{hint_number, name_of, IsPlace, Hinted};
+ghost use Rattle.bundle.specs.Hints.{hint_number, name_of, place_in, IsPlace, Hinted};
 
 use super::walk::Step;
 use layout::Table;
@@ -65,7 +65,7 @@ impl Hints<'_> {
     }
 
     pub fn place_at(&self, slot: usize) -> usize
-        ensures { IsPlace self.now.bundle.now result }
+        ensures { (result ≡ place_in (get_or self.now.places.now slot 0)) × IsPlace self.now.bundle.now result }
     {
         if self.places.len() <= slot {
             return 0;

@@ -12,7 +12,7 @@ returns-then-hints-eq0 c =
 -- a hint where a record serves
 pub returns-then-serves_at : goal.returns-then-serves_at
 returns-then-serves_at c = (
-  sym (rw (← c.link_at-link.ensures) (served_there c.args.hints.now.bundle.now c.link_at-link.result _ c.place_at-hint.result c.place_at-hint.ensures (sym c.serves_at.ensures ∙ c.if-serves_at.true))),
+  sym (rw (← c.link_at-link.ensures) (served_there c.args.hints.now.bundle.now c.link_at-link.result _ c.place_at-hint.result c.place_at-hint.ensures.1 (sym c.serves_at.ensures ∙ c.if-serves_at.true))),
   c.put.ensures,
 )
 
