@@ -63,10 +63,17 @@ impl Entry<'_> {
         *super::words::block(words, PARTS)
     }
 
+    // The word of the status: in a sound book 0 or 1.
+    pub fn status_word(&self) -> u32
+        ensures { result ≡ self.now.status }
+    {
+        self.words[STATUS]
+    }
+
     pub fn status(&self) -> Status
         ensures { result ≡ status_of self.now.status }
     {
-        super::status::status_of(self.words[STATUS])
+        self.status_word().into()
     }
 }
 

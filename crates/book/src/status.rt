@@ -21,11 +21,13 @@ impl From<Status> for u32 {
 }
 
 // The status that a word says. A sound book has no other word than those two.
-pub fn status_of(word: u32) -> Status
-    ensures { result ≡ status_of word }
-{
-    match word {
-        0 => Status::Live,
-        _ => Status::Cancelled,
+impl From<u32> for Status {
+    ghost from_gives = { λ word status. status ≡ status_of word };
+
+    fn from(word: u32) -> Status {
+        match word {
+            0 => Status::Live,
+            _ => Status::Cancelled,
+        }
     }
 }

@@ -68,12 +68,12 @@ unfoldable pub keeps_row : Table → List ℕ → Row → Bool
 keeps_row t body row =
     kept_beside (bytes_of t (row.field - 1) body) (byte_of t (row.field - 1) body) (bytes_in (day_row is_first t) body) body row
 
--- the field of the first of some rows that is not kept, 0 where all are
+-- the field of the first of some rows that is not kept, none where all are
 unfoldable pub first_broken : (Row → Bool) → List Row → Option ℕ
 first_broken kept [] = None
 first_broken kept (row ∷ rs) = cond (kept row) (first_broken kept rs) (Some row.field)
 
--- "fields from left to right": the first field that breaks its rule, 0 where none does
+-- "fields from left to right": the first field that breaks its rule, if one does
 unfoldable pub broken_field : Table → List ℕ → Option ℕ
 broken_field t body = first_broken (keeps_row t body) (table_at t).rows
 

@@ -1,7 +1,7 @@
 -- THE PROMISES of the calls that read a book: how many sales it has, the sale at an entry, and the sale of a number.
 -- Assumes nothing.
 use Prim.Native.Nat.{ℕ, ◌≤◌, ◌<◌}
-use mathlib.Core.Path.{◌≡◌, refl, sym, ◌∙◌, ap}
+use mathlib.Core.Path.{◌≡◌, refl, ap}
 use mathlib.Core.Bool.{true, false}
 use mathlib.Core.List.{List, [], ◌∷◌, ◌++◌}
 use lib.ListN.{length, get_or, replicate}
@@ -80,12 +80,11 @@ module _ (book : List ℕ) (sound : Sound book) where
       unfolding tells_values
       what_an_entry_holds_is_found = rw (known_find book sound n number i inside held)
 
-      pub what_is_found_is_told_again : (bundle : List ℕ) (found : Booking) → find_answer book n.till n.sequence ≡ Ok found
-          → receipt_tells (sale_answer book n.till n.sequence bundle found.question) ≡ answers (already_booked ∷ number_of_status found.status ∷ found.parts)
+      pub what_is_found_is_told_again : (bundle : List ℕ) → (found : Booking) × (find_answer book n.till n.sequence ≡ Ok found)
+          × (receipt_tells (sale_answer book n.till n.sequence bundle found.question) ≡ answers (already_booked ∷ number_of_status found.status ∷ found.parts))
       unfolding tells_values outcome_values
-      what_is_found_is_told_again bundle found e =
-          let x : booking_at i (entry_at book i) ≡ found = let h = sym (known_find book sound n number i inside held) ∙ e in cc in
-          rw (← x, same_sale book sound n number i inside held bundle _ the_same)
+      what_is_found_is_told_again bundle =
+          (booking_at i (entry_at book i), known_find book sound n number i inside held, rw (same_sale book sound n number i inside held bundle _ the_same))
         where
           the_same : {q : Question} → SameQuestion q q
           the_same = record { offer = refl; day = refl; persons = refl; cards = λ k l. refl; count = refl; railways = λ k l. refl; fares = λ k l. refl }

@@ -42,8 +42,8 @@ ghost use Rattle.sales.specs.Sales.{sale_answer, sale_words, cancel_answer, canc
 ghost use Rattle.sales.specs.Balances.{balance_answer, total_answer};
 ghost use Rattle.sales.specs.Reading.{count_answer, entry_answer, find_answer};
 
-// Why a call is refused: number, place and detail.
-pub use common::Refusal;
+// Why a call is refused: the reason, its place and its detail.
+pub use common::{Reason, Refusal};
 
 // What is asked of a fare, and what is answered: the parts and their sum.
 pub use fares::{Leg, Question, Quote};

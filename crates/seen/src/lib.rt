@@ -54,6 +54,26 @@ pub fn has_tag(head: u8, number: u64) -> bool
     head as usize % STEP == tag_of(number)
 }
 
+// The head of a slot, 0 where there is none.
+pub fn head_at(heads: &[u8], slot: usize) -> u8
+    ensures { result ≡ get_or heads.now slot 0 }
+{
+    heads.get(slot).copied().unwrap_or(0)
+}
+
+fn low_at(lows: &[u16], slot: usize) -> u16
+    ensures { result ≡ get_or lows.now slot 0 }
+{
+    lows.get(slot).copied().unwrap_or(0)
+}
+
+// The value in a slot.
+pub fn value_at<'a>(heads: &'a [u8], lows: &'a [u16], slot: usize) -> usize
+    ensures { result ≡ value_at heads.now lows.now slot }
+{
+    head_at(heads, slot) as usize / STEP * LOWS + low_at(lows, slot) as usize
+}
+
 // The slots of a table, in room that is lent. Heads and low parts lie in arrays of their own: together in one they would take four bytes a slot, not three.
 #[derive(Drop)]
 pub struct Slots<'a> {
@@ -62,24 +82,16 @@ pub struct Slots<'a> {
 }
 
 impl<'a> Slots<'a> {
-    // The head of a slot, 0 where there is none.
     pub fn head(&self, slot: usize) -> u8
         ensures { result ≡ get_or self.now.heads.now slot 0 }
     {
-        self.heads.get(slot).copied().unwrap_or(0)
+        head_at(self.heads, slot)
     }
 
-    fn low(&self, slot: usize) -> u16
-        ensures { result ≡ get_or self.now.lows.now slot 0 }
-    {
-        self.lows.get(slot).copied().unwrap_or(0)
-    }
-
-    // The value in a slot.
     pub fn value(&self, slot: usize) -> usize
         ensures { result ≡ value_at self.now.heads.now self.now.lows.now slot }
     {
-        self.head(slot) as usize / STEP * LOWS + self.low(slot) as usize
+        value_at(self.heads, self.lows, slot)
     }
 
     // Puts a value under a number into a slot, and tells whether there is room for it.
