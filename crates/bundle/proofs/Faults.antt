@@ -11,11 +11,11 @@ use native.Mathlib.Omega.{arith}
 use lib.Dec.{ltb}
 use lib.ListN.{length, length-append}
 use borrow.Author.Tests.{lt-ltb, le-ltb, ltb-true, ltb-false, not-false}
-use Rattle.common.specs.declared.reasons.Reason.{Reason}
 use Rattle.common.specs.declared.reasons.Reason.TheVariants.{BundleTooLong, MarkUnknown, RecordShort, FieldBroken, OtherTransferor, KeyRepeated, LinkMissing}
 use Rattle.common.specs.Least.{least}
 use Rattle.common.specs.Lists.{every, same}
-use Rattle.common.specs.Checks.{refuse, clean, fault, first_fault, each_from}
+use Rattle.common.specs.Reasons.{number_of_reason, numbers_told}
+use Rattle.common.specs.Checks.{refuse, clean, fault, first_fault, each_from, IsFault}
 use Rattle.common.specs.declared.Refusal.{Refusal}
 use Rattle.common.proofs.Tests.{never, both_true, refuted}
 use Rattle.common.proofs.Least.{passes, before, hit, none}
@@ -129,7 +129,7 @@ module _ (s : List ℕ) where
   rest = rest_of s
 
   abbrev Told : Refusal → Type 0
-  Told why = Fault s R rest why.reason why.place why.detail
+  Told why = Fault s R rest (number_of_reason why.reason) why.place why.detail
 
   fields_told : (i : ℕ) → first_fault (field_checks (0 + i) (record_at R i)) ≡ clean → KeepsRules (record_at R i)
   fields_told i e = keeps (record_at R i) (0 + i) e
@@ -247,14 +247,16 @@ module _ (s : List ℕ) where
       (fault_each (record_checks R) no_rec 0 R why
       (record { at = i; inside = k.inside; fails = rw zero-add e; earlier_clean = λ j m. rw zero-add (fits_clean R j (k.earlier j m)) })))
 
-  pub means_fault : (n : Reason) (p d : ℕ) → Fault s R rest n p d → first_fault (checks s) ≡ fault (refuse n p d)
+  pub means_fault : (n p d : ℕ) → Fault s R rest n p d → IsFault (first_fault (checks s)) n p d
   unfolding checks first_pass first_fault
-  means_fault n p d (too_long l) = rw (lt-ltb limit (length s) l)
-  means_fault n p d (unknown_mark k l m) = at_end k (refuse MarkUnknown (length R) 0) (rw (lt-ltb 0 (length rest) l, no_mark_is rest m))
-  means_fault n p d (too_short k m) = at_end k (refuse RecordShort (length R) 0) (rw (too_short_is rest m, and-false (ltb 0 (length rest))))
+  means_fault n p d (too_long l) = (BundleTooLong, refl, rw (lt-ltb limit (length s) l))
+  means_fault n p d (unknown_mark k l m) =
+      (MarkUnknown, refl, at_end k (refuse MarkUnknown (length R) 0) (rw (lt-ltb 0 (length rest) l, no_mark_is rest m)))
+  means_fault n p d (too_short k m) =
+      (RecordShort, refl, at_end k (refuse RecordShort (length R) 0) (rw (too_short_is rest m, and-false (ltb 0 (length rest)))))
   means_fault n p d (breaks_a_field i f k l b) =
       let e = broken_is (record_at R i) f b in
-      in_first k.size (refuse FieldBroken i f)
+      (FieldBroken, refl, in_first k.size (refuse FieldBroken i f)
       (fault_append (each_from 0 field_checks R) (end_checks (length R) rest)
       ∙ rw (fault_each field_checks no_rec 0 R (refuse FieldBroken i f)
       (record {
@@ -262,21 +264,22 @@ module _ (s : List ℕ) where
         inside = l;
         fails = rw (zero-add, e);
         earlier_clean = λ j m. kept_clean (record_at R j) (0 + j) (k.earlier j m);
-      })))
-  means_fault n p d (other_transferor_fault i k t) = in_second i k (refuse OtherTransferor i 0) (rw (another R i t))
+      }))))
+  means_fault n p d (other_transferor_fault i k t) = (OtherTransferor, refl, in_second i k (refuse OtherTransferor i 0) (rw (another R i t)))
   means_fault n p d (repeats_a_key i j k t l c m) =
-      in_second i k (refuse KeyRepeated i j) (rw (transferor_same R (record_at R i) t, clash_first R i j l c m, lt-ltb j i l))
+      (KeyRepeated, refl, in_second i k (refuse KeyRepeated i j) (rw (transferor_same R (record_at R i) t, clash_first R i j l c m, lt-ltb j i l)))
   means_fault n p d (lacks_a_link i f k t c m) =
       let e = missing_link_lem R (record_at R i) f m in
-      in_second i k (refuse LinkMissing i f) (rw (transferor_same R (record_at R i) t, clash_none R (record_at R i) i c, e.0, e.1))
+      (LinkMissing, refl, in_second i k (refuse LinkMissing i f) (rw (transferor_same R (record_at R i) t, clash_none R (record_at R i) i c, e.0, e.1)))
 
 -- A BUNDLE IS REFUSED with a number, a place and a detail only if it has that fault, and if it has.
-pub refused_fault : (s : List ℕ) (why : Refusal) → verdict_of s ≡ Err why → Fault s (records_of s) (rest_of s) why.reason why.place why.detail
+pub refused_fault : (s : List ℕ) (why : Refusal) → verdict_of s ≡ Err why → Fault s (records_of s) (rest_of s) (number_of_reason why.reason) why.place why.detail
 unfolding verdict_of
 refused_fault s why e = fault_means s why (is_fault (first_fault (checks s)) (length (records_of s)) why e)
 
-pub fault_refused : (s : List ℕ) (R : List Rec) (rest : List ℕ) → Cut s R rest → (n : Reason) (p d : ℕ) → Fault s R rest n p d → verdict_of s ≡ Err (refuse n p d)
+pub fault_refused : (s : List ℕ) (R : List Rec) (rest : List ℕ) → Cut s R rest → (n p d : ℕ) → Fault s R rest n p d → numbers_told (verdict_of s) ≡ n ∷ p ∷ d ∷ []
 unfolding verdict_of
 fault_refused s R rest c n p d f =
     let e = cut_only s R rest c in
-    rw (means_fault s n p d (rw (e.0, e.1) f))
+    let h = means_fault s n p d (rw (e.0, e.1) f) in
+    rw h.2 (ap (λ k. k ∷ p ∷ d ∷ []) h.1)

@@ -2,8 +2,6 @@
 -- no earlier one, in the order of checks, breaks any. There is no walk and no search in it.
 -- Assumes nothing.
 use Rattle.std.specs.Prelude.{ℕ, ◌≤◌, ◌<◌, ◌≡◌, true, false, List, ◌∷◌, ◌++◌, ◌⊎◌, length}
-use Rattle.common.specs.declared.reasons.Reason.{Reason}
-use Rattle.common.specs.declared.reasons.Reason.TheVariants.{BundleTooLong, MarkUnknown, RecordShort, FieldBroken, OtherTransferor, KeyRepeated, LinkMissing}
 use Rattle.common.specs.Lists.{every}
 use Rattle.layout.specs.Bytes.{byte_Y}
 use Rattle.layout.specs.Layout.{CO, AR, ME, table_at, length_of}
@@ -71,13 +69,13 @@ pub record SecondLook (s : List ℕ) (R : List Rec) (i : ℕ) : Type 0 where
   pub inside : i < length R
   pub earlier : (j : ℕ) → j < i → Fits R j
 
--- THE FAULT: its reason, place and detail
-pub data Fault (s : List ℕ) (R : List Rec) (rest : List ℕ) : Reason → ℕ → ℕ → Type 0 where
-  too_long : 1048576 < length s → Fault s R rest BundleTooLong 0 0
-  unknown_mark : FirstLook s R (length R) → 0 < length rest → NoMark rest → Fault s R rest MarkUnknown (length R) 0
-  too_short : FirstLook s R (length R) → TooShort rest → Fault s R rest RecordShort (length R) 0
-  breaks_a_field : (i f : ℕ) → FirstLook s R i → i < length R → Breaks (record_at R i) f → Fault s R rest FieldBroken i f
-  other_transferor_fault : (i : ℕ) → SecondLook s R i → (OfOneTransferor R i → ⊥) → Fault s R rest OtherTransferor i 0
+-- THE FAULT: number, place and detail
+pub data Fault (s : List ℕ) (R : List Rec) (rest : List ℕ) : ℕ → ℕ → ℕ → Type 0 where
+  too_long : 1048576 < length s → Fault s R rest 1 0 0
+  unknown_mark : FirstLook s R (length R) → 0 < length rest → NoMark rest → Fault s R rest 2 (length R) 0
+  too_short : FirstLook s R (length R) → TooShort rest → Fault s R rest 3 (length R) 0
+  breaks_a_field : (i f : ℕ) → FirstLook s R i → i < length R → Breaks (record_at R i) f → Fault s R rest 4 i f
+  other_transferor_fault : (i : ℕ) → SecondLook s R i → (OfOneTransferor R i → ⊥) → Fault s R rest 5 i 0
   repeats_a_key : (i j : ℕ) → SecondLook s R i → OfOneTransferor R i → j < i → Clash (record_at R i) (record_at R j)
-      → ((m : ℕ) → m < j → Clash (record_at R i) (record_at R m) → ⊥) → Fault s R rest KeyRepeated i j
-  lacks_a_link : (i d : ℕ) → SecondLook s R i → OfOneTransferor R i → Apart R i → Missing R (record_at R i) d → Fault s R rest LinkMissing i d
+      → ((m : ℕ) → m < j → Clash (record_at R i) (record_at R m) → ⊥) → Fault s R rest 6 i j
+  lacks_a_link : (i d : ℕ) → SecondLook s R i → OfOneTransferor R i → Apart R i → Missing R (record_at R i) d → Fault s R rest 7 i d

@@ -8,6 +8,7 @@ pub mod Digits
 pub mod Ranks
 pub mod RightDigits
 pub mod Computed
+pub mod ReasonNumbers
 pub mod Sums
 pub mod Checks
 pub mod Listed

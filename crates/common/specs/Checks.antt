@@ -49,6 +49,14 @@ pub record First (cs : List Check) (r : Refusal) : Type 0 where
   pub split : cs ≡ before ++ (record { fails = true; tells = r } ∷ after)
   pub earlier_pass : AllPass before
 
+-- The first that fails tells this number, place and detail.
+abbrev pub FirstIs : List Check → ℕ → ℕ → ℕ → Type 0
+FirstIs cs n p d = (k : Reason) × (number_of_reason k ≡ n) × First cs (refuse k p d)
+
+-- What was found is a fault of this number, place and detail.
+abbrev pub IsFault : Finding → ℕ → ℕ → ℕ → Type 0
+IsFault f n p d = (k : Reason) × (number_of_reason k ≡ n) × (f ≡ fault (refuse k p d))
+
 -- Each check of the list tells one of these numbers.
 abbrev pub is_among : List ℕ → Check → Bool
 is_among ns c = any (nat_eq (number_of_reason c.tells.reason)) ns

@@ -7,7 +7,6 @@ use mathlib.Core.Bool.{false}
 use native.Mathlib.Omega.{arith}
 use lib.Dec.{eqb}
 use Rattle.std.specs.Prelude.{Result, Ok, Err}
-use Rattle.common.specs.Reasons.{number_of_reason}
 use Rattle.common.specs.Lists.{any}
 use Rattle.common.specs.declared.Refusal.{Refusal}
 use Rattle.common.proofs.Tests.{never}
@@ -25,11 +24,12 @@ use Rattle.edge.specs.Replies.{number_in, judgement_reply, quote_reply, receipt_
 use Rattle.edge.specs.ZeroNumber.{ZeroIfAnswered}
 
 -- where 0 is not among the numbers that a refusal can have
-by_number : (ns : List ℕ) → any (eqb 0) ns ≡ false → (t : Told) → ((why : Refusal) (us : List ℕ) → t ≡ refuses why us → Among ns (number_of_reason why.reason))
+by_number : (ns : List ℕ) → any (eqb 0) ns ≡ false → (t : Told)
+    → ((number place detail : ℕ) (us : List ℕ) → t ≡ refuses number place detail us → Among ns number)
     → ZeroIfAnswered (number_in t) t
 by_number ns none (answers us) among = record { zero_is_answered = λ z. (us, refl); answered_is_zero = λ vs e. refl }
-by_number ns none (refuses why us) among = record {
-  zero_is_answered = λ z. never (rw z at (among why us refl)) none;
+by_number ns none (refuses number place detail us) among = record {
+  zero_is_answered = λ z. never (rw z at (among number place detail us refl)) none;
   answered_is_zero = λ vs e. let z : ◌≡◌ {A = ℕ} 0 1 = cc in absurd (omega arith);
 }
 

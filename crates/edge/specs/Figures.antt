@@ -1,7 +1,7 @@
 -- What C gets, in figures: each value of a reply is that of its name, for a refusal and for an answer.
 -- Assumes nothing.
 use Rattle.std.specs.Prelude.{ℕ, ◌≡◌, List, [], ◌∷◌, replicate, Ok, Err}
-use Rattle.common.specs.declared.reasons.Reason.TheVariants.{LinkMissing, SaleUnknown}
+use Rattle.common.specs.declared.reasons.Reason.TheVariants.{SaleUnknown}
 use Rattle.common.specs.Checks.{refuse}
 use Rattle.offers.specs.Answers.{Told, answers, refuses, booked, already_booked}
 use Rattle.fares.specs.Samples.{leg, ticket}
@@ -12,7 +12,7 @@ use Rattle.edge.specs.Replies.{judgement_reply, quote_reply, receipt_reply, sum_
 
 -- a refusal by 7 at record 5, detail 3, with so many values; the parts of two legs
 abbrev pub refused : ℕ → Told
-refused values = refuses (refuse LinkMissing 5 3) (replicate values 0)
+refused values = refuses 7 5 3 (replicate values 0)
 
 abbrev pub parts : List ℕ
 parts = 2274 ∷ 1500 ∷ 0 ∷ 0 ∷ 0 ∷ 0 ∷ 0 ∷ 0 ∷ []

@@ -18,19 +18,19 @@ use Rattle.edge.specs.declared.TallyReply.{TallyReply}
 -- number, place and detail of the refusal that is told; 0 stands for none, as numbers start at 1
 abbrev pub number_in : Told → ℕ
 number_in (answers vs) = 0
-number_in (refuses why vs) = number_of_reason why.reason
+number_in (refuses number place detail vs) = number
 
 abbrev pub place_in : Told → ℕ
 place_in (answers vs) = 0
-place_in (refuses why vs) = why.place
+place_in (refuses number place detail vs) = place
 
 abbrev pub detail_in : Told → ℕ
 detail_in (answers vs) = 0
-detail_in (refuses why vs) = why.detail
+detail_in (refuses number place detail vs) = detail
 
 abbrev pub values_of : Told → List ℕ
 values_of (answers vs) = vs
-values_of (refuses why vs) = vs
+values_of (refuses number place detail vs) = vs
 
 abbrev pub value_at : ℕ → Told → ℕ
 value_at i t = get_or (values_of t) i 0

@@ -12,7 +12,8 @@ use Rattle.std.specs.Prelude.{Some, None}
 use Rattle.common.specs.declared.reasons.Reason.{Reason}
 use Rattle.common.specs.declared.reasons.Reason.TheVariants.{NoConditions, DayOutside, PersonsOutside, ConditionUnread}
 use Rattle.common.specs.Lists.{every, any}
-use Rattle.common.specs.Checks.{refuse, clean, fault, first_fault}
+use Rattle.common.specs.Reasons.{number_of_reason}
+use Rattle.common.specs.Checks.{refuse, clean, fault, first_fault, IsFault}
 use Rattle.common.proofs.Tests.{never, both_true, either_false, refuted}
 use Rattle.layout.specs.Bytes.{byte_Y}
 use Rattle.layout.specs.Layout.{CO, table_at}
@@ -160,7 +161,7 @@ module _ (s : List ℕ) (R : List Rec) (g : Good s R) (q : Question) (leg : Leg)
 
     abbrev Found : Type 0
     Found = ((first_fault (leg_checks R q k leg) ≡ clean) × LegFare R q leg (part_of R q leg))
-        ⊎ ((n : Reason) × (d : ℕ) × (first_fault (leg_checks R q k leg) ≡ fault (refuse n k d)) × TurnedAway R q leg n d)
+        ⊎ ((n : Reason) × (d : ℕ) × (first_fault (leg_checks R q k leg) ≡ fault (refuse n k d)) × TurnedAway R q leg (number_of_reason n) d)
 
     -- by its CO, where no card is given twice
     module _ (d : CardsDiffer q) (i : ℕ) (e : conditions_for R q leg ≡ At i) (u : IsConditions R q leg i) where
@@ -203,14 +204,15 @@ module _ (s : List ℕ) (R : List Rec) (g : Good s R) (q : Question) (leg : Leg)
     leg_means d = by_choice d (conditions_for R q leg) refl conditions_mean
 
     -- AND BACK
-    pub means_turned : (n : Reason) (d : ℕ) → TurnedAway R q leg n d → first_fault (leg_checks R q k leg) ≡ fault (refuse n k d)
+    pub means_turned : (n d : ℕ) → TurnedAway R q leg n d → IsFault (first_fault (leg_checks R q k leg)) n k d
     unfolding first_fault
-    means_turned n d (no_conditions h) = rw (is_conditions Nothing (nothing h))
-    means_turned n d (none_valid i f h) = rw (is_conditions NotThatDay (not_that_day i f h))
+    means_turned n d (no_conditions h) = (NoConditions, refl, rw (is_conditions Nothing (nothing h)))
+    means_turned n d (none_valid i f h) = (DayOutside, refl, rw (is_conditions NotThatDay (not_that_day i f h)))
     means_turned n d (persons_outside i u p) =
-        at_record i (conditions_at i u) ∙ rw (refuted _ (λ b. p (fit_means (record_at R i).body q.persons b)))
+        (PersonsOutside, refl, at_record i (conditions_at i u) ∙ rw (refuted _ (λ b. p (fit_means (record_at R i).body q.persons b))))
     means_turned n d (condition-unread i u p f z) =
-        at_record i (conditions_at i u) ∙ rw (means_fit (record_at R i).body q.persons p, one_unread_is (record_at R i).body f z)
+        let w = at_record i (conditions_at i u) ∙ rw (means_fit (record_at R i).body q.persons p, one_unread_is (record_at R i).body f z) in
+        (ConditionUnread, refl, w)
 
     pub means_priced : CardsDiffer q → (part : ℕ) → LegFare R q leg part → (first_fault (leg_checks R q k leg) ≡ clean) × (part ≡ part_of R q leg)
     unfolding first_fault

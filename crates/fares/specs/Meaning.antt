@@ -2,8 +2,6 @@
 -- it; the part and the fare. There is no search, no sort and no order of trying in it.
 -- Assumes nothing.
 use Rattle.std.specs.Prelude.{ℕ, ◌-◌, ◌*◌, ◌≤◌, ◌<◌, ◌≡◌, false, List, [], ◌∷◌, ◌++◌, ◌⊎◌, eqb, length, get_or}
-use Rattle.common.specs.declared.reasons.Reason.{Reason}
-use Rattle.common.specs.declared.reasons.Reason.TheVariants.{OutsideLimits, NoConditions, DayOutside, PersonsOutside, ConditionUnread, CardTwice}
 use Rattle.common.specs.Lists.{any, sum}
 use Rattle.layout.specs.Bytes.{byte_N, byte_Y}
 use Rattle.layout.specs.Calendar.{RealDay}
@@ -143,13 +141,13 @@ module _ (R : List Rec) (q : Question) (leg : Leg) where
     pub by_cards : AfterCards (record_at R at).body amount last
     pub times_persons : part ≡ last * q.persons
 
-  -- A LEG IS TURNED AWAY for a reason, with its detail. "13 when CO records of that railway or 0000 exist and none is valid; 12 when there are none"; 14: persons
+  -- A LEG IS TURNED AWAY by a number and its detail. "13 when CO records of that railway or 0000 exist and none is valid; 12 when there are none"; 14: persons
   -- outside the fields 28, 29 of the one that it uses; 15: a condition unread of it, by its field
-  pub data TurnedAway : Reason → ℕ → Type 0 where
-    no_conditions : ((i : ℕ) → AnyConditions i → ⊥) → TurnedAway NoConditions 0
-    none_valid : (i : ℕ) → AnyConditions i → ((j : ℕ) → AnyConditions j → HoldsDay CO q.day (record_at R j) → ⊥) → TurnedAway DayOutside 0
-    persons_outside : (i : ℕ) → IsConditions i → (PersonsFit (record_at R i).body q.persons → ⊥) → TurnedAway PersonsOutside 0
-    unread : (i : ℕ) → IsConditions i → PersonsFit (record_at R i).body q.persons → (f : ℕ) → FirstSet unread_fields (record_at R i).body f → TurnedAway ConditionUnread f
+  pub data TurnedAway : ℕ → ℕ → Type 0 where
+    no_conditions : ((i : ℕ) → AnyConditions i → ⊥) → TurnedAway 12 0
+    none_valid : (i : ℕ) → AnyConditions i → ((j : ℕ) → AnyConditions j → HoldsDay CO q.day (record_at R j) → ⊥) → TurnedAway 13 0
+    persons_outside : (i : ℕ) → IsConditions i → (PersonsFit (record_at R i).body q.persons → ⊥) → TurnedAway 14 0
+    unread : (i : ℕ) → IsConditions i → PersonsFit (record_at R i).body q.persons → (f : ℕ) → FirstSet unread_fields (record_at R i).body f → TurnedAway 15 f
 
 -- THE FARE of a question by the records of a bundle: a part for each leg, nothing in the slots beyond them, and the sum
 pub record IsFare (bundle : List ℕ) (R : List Rec) (q : Question) (fare : ℕ) (parts : List ℕ) : Type 0 where
@@ -161,10 +159,10 @@ pub record IsFare (bundle : List ℕ) (R : List Rec) (q : Question) (fare : ℕ)
   pub eight : length parts ≡ 8
   pub summed : fare ≡ sum parts
 
--- NO FARE, by its reason, place and detail: the bundle has a fault; or the question is outside its limits, or gives a card twice; or leg k is turned away, and no leg before it
-pub data NoFare (bundle : List ℕ) (R : List Rec) (rest : List ℕ) (q : Question) : Reason → ℕ → ℕ → Type 0 where
-  faulty : {n : Reason} {p d : ℕ} → Fault bundle R rest n p d → NoFare bundle R rest q n p d
-  outside_limits : Good bundle R → (InLimits q → ⊥) → NoFare bundle R rest q OutsideLimits 0 0
-  card_twice : Good bundle R → InLimits q → (CardsDiffer q → ⊥) → NoFare bundle R rest q CardTwice 0 0
+-- NO FARE, by number, place and detail: the bundle has a fault; or the question is outside its limits, or gives a card twice; or leg k is turned away, and no leg before it
+pub data NoFare (bundle : List ℕ) (R : List Rec) (rest : List ℕ) (q : Question) : ℕ → ℕ → ℕ → Type 0 where
+  faulty : {n p d : ℕ} → Fault bundle R rest n p d → NoFare bundle R rest q n p d
+  outside_limits : Good bundle R → (InLimits q → ⊥) → NoFare bundle R rest q 11 0 0
+  card_twice : Good bundle R → InLimits q → (CardsDiffer q → ⊥) → NoFare bundle R rest q 17 0 0
   at_leg : Good bundle R → InLimits q → CardsDiffer q → (k : ℕ) → k < q.count → ((j : ℕ) → j < k → (part : ℕ) × LegFare R q (leg_at q j) part)
-      → {n : Reason} {d : ℕ} → TurnedAway R q (leg_at q k) n d → NoFare bundle R rest q n k d
+      → {n d : ℕ} → TurnedAway R q (leg_at q k) n d → NoFare bundle R rest q n k d

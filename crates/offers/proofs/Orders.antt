@@ -9,10 +9,10 @@ use lib.Dec.{eqb, leb}
 use lib.ListN.{length, get_or, replicate}
 use borrow.Author.Tests.{ltb-true, not-false}
 use Rattle.std.specs.Prelude.{Result, Ok, Err}
-use Rattle.common.specs.Reasons.{number_of_reason}
+use Rattle.common.specs.Reasons.{number_of_reason, numbers_told}
 use Rattle.common.specs.declared.reasons.Reason.TheVariants.{BookUnsound, BookFull}
 use Rattle.common.specs.Lists.{every, any, sum}
-use Rattle.common.specs.Checks.{Finding, clean, fault, Check, check, unless, first_fault, each_from, AllPass, TellsOf}
+use Rattle.common.specs.Checks.{refuse, Finding, clean, fault, Check, check, unless, first_fault, each_from, AllPass, IsFault, TellsOf}
 use Rattle.common.specs.declared.Refusal.{Refusal}
 use Rattle.common.proofs.Tests.{never}
 use Rattle.common.proofs.Lists.{every_among, every_at}
@@ -46,17 +46,23 @@ module _ {A : Type 0} (n : ℕ) (values : A → List ℕ) (a : A) where
   told_clean clean us e = (refl, cc)
   told_clean (fault why) us e = (cc, cc)
 
-  told_fault : (f : Finding) (us : List ℕ) (why : Refusal) → tells_values n values (unless f a) ≡ refuses why us → (f ≡ fault why) × (us ≡ replicate n 0)
+  told_fault : (f : Finding) (number place detail : ℕ) (us : List ℕ) → tells_values n values (unless f a) ≡ refuses number place detail us
+      → IsFault f number place detail × (us ≡ replicate n 0)
   unfolding tells_values
-  told_fault clean us why e = (cc, cc)
-  told_fault (fault other) us why e = (cc, cc)
+  told_fault clean number place detail us e = absurd (cc e)
+  told_fault (fault why) number place detail us e =
+      let p : why.place ≡ place = cc in
+      let d : why.detail ≡ detail = cc in
+      ((why.reason, cc, λ j. fault (refuse why.reason (p j) (d j))), cc)
 
   follows : (cs : List Check) → Follows (tells_values n values (unless (first_fault cs) a)) cs n (values a)
   unfolding tells_values
   follows cs =
       record {
-        refused_by = λ why us h. let r = told_fault (first_fault cs) us why h in (fault_means cs why r.0, r.1);
-        first_refuses = λ why f. rw (means_fault cs why f);
+        refused_by = λ number place detail us h.
+            let r = told_fault (first_fault cs) number place detail us h in ((r.0.0, r.0.1, fault_means cs (refuse r.0.0 place detail) r.0.2), r.1);
+        first_refuses = λ number place detail f.
+            rw (means_fault cs (refuse f.0 place detail) f.2) (ap (λ k. refuses k place detail (replicate n 0)) f.1);
         answered_if = λ us h. let r = told_clean (first_fault cs) us h in (clean_means cs r.0, r.1);
         passing_answers = λ p. rw (means_clean cs p);
       }
@@ -194,8 +200,9 @@ entry_numbers_lem w i = refl
 
 -- a refusal tells one of its call's numbers
 refused_among : {t : Told} {cs : List Check} {n : ℕ} {vs : List ℕ} (ns : List ℕ) → Follows t cs n vs → TellsOf ns cs
-    → (why : Refusal) (us : List ℕ) → t ≡ refuses why us → Among ns (number_of_reason why.reason)
-refused_among {cs = cs} ns f e why us h = first_among ns cs e why (f.refused_by why us h).0
+    → (number place detail : ℕ) (us : List ℕ) → t ≡ refuses number place detail us → Among ns number
+refused_among {cs = cs} ns f e number place detail us h =
+    let r = (f.refused_by number place detail us h).0 in subst (Among ns) r.1 (first_among ns cs e (refuse r.0 place detail) r.2)
 
 -- What is told tells the answer.
 module _ {A : Type 0} (n : ℕ) (values : A → List ℕ) where
@@ -204,10 +211,24 @@ module _ {A : Type 0} (n : ℕ) (values : A → List ℕ) where
   told_ok (Ok a) e = (a, refl, cc)
   told_ok (Err why) e = cc
 
-  pub told_err : (r : Result A Refusal) {why : Refusal} {us : List ℕ} → tells_values n values r ≡ refuses why us → r ≡ Err why
+  -- a refusal that is told is the answer's, by its number: so what holds of that holds of the number, place and detail that are told
+  pub told_err : (Holds : ℕ → ℕ → ℕ → Type 0) (r : Result A Refusal) {number place detail : ℕ} {us : List ℕ}
+      → ((why : Refusal) → r ≡ Err why → Holds (number_of_reason why.reason) why.place why.detail)
+      → tells_values n values r ≡ refuses number place detail us → Holds number place detail
   unfolding tells_values
-  told_err (Ok a) e = cc
-  told_err (Err why) e = cc
+  told_err Holds (Ok a) holds e = absurd (cc e)
+  told_err Holds (Err why) {number} {place} {detail} holds e =
+      let k : number_of_reason why.reason ≡ number = cc in
+      let p : why.place ≡ place = cc in
+      let d : why.detail ≡ detail = cc in
+      subst (λ x. Holds x place detail) k (subst (λ x. Holds (number_of_reason why.reason) x detail) p
+      (subst (λ x. Holds (number_of_reason why.reason) why.place x) d (holds why refl)))
+
+  pub told_numbers : (r : Result A Refusal) {number place detail : ℕ} → numbers_told r ≡ number ∷ place ∷ detail ∷ []
+      → tells_values n values r ≡ refuses number place detail (replicate n 0)
+  unfolding tells_values
+  told_numbers (Ok a) e = absurd (cc e)
+  told_numbers (Err why) e = cc
 
 pub told_accepted : (j : Result ℕ Refusal) (n : ℕ) → verdict_tells j ≡ answers (n ∷ []) → j ≡ Ok n
 told_accepted j n e =
@@ -249,50 +270,50 @@ unfolding tells_values outcome_values
 cancelled_told {x = x} a e = rw (a, e)
 
 -- NO CALL TELLS A NUMBER that is not in its table.
-pub the_numbers_of_a_verdict : (bundle : List ℕ) (why : Refusal) (us : List ℕ) → verdict_tells (verdict_of bundle) ≡ refuses why us → Among verdict_numbers (number_of_reason why.reason)
+pub the_numbers_of_a_verdict : (bundle : List ℕ) (number place detail : ℕ) (us : List ℕ) → verdict_tells (verdict_of bundle) ≡ refuses number place detail us → Among verdict_numbers number
 the_numbers_of_a_verdict bundle = refused_among verdict_numbers (verdict_follows bundle) (verdict_numbers_lem bundle)
 
-pub the_numbers_of_a_fare : (bundle : List ℕ) (q : Question) (why : Refusal) (us : List ℕ) → fare_tells (fare_of bundle q) ≡ refuses why us → Among fare_numbers (number_of_reason why.reason)
+pub the_numbers_of_a_fare : (bundle : List ℕ) (q : Question) (number place detail : ℕ) (us : List ℕ) → fare_tells (fare_of bundle q) ≡ refuses number place detail us → Among fare_numbers number
 the_numbers_of_a_fare bundle q = refused_among fare_numbers (fare_follows bundle q) (fare_numbers_lem bundle q)
 
-pub the_numbers_of_a_sale : (book : List ℕ) (till sequence : ℕ) (bundle : List ℕ) (q : Question) (why : Refusal) (us : List ℕ)
-    → receipt_tells (sale_answer book till sequence bundle q) ≡ refuses why us → Among sale_numbers (number_of_reason why.reason)
+pub the_numbers_of_a_sale : (book : List ℕ) (till sequence : ℕ) (bundle : List ℕ) (q : Question) (number place detail : ℕ) (us : List ℕ)
+    → receipt_tells (sale_answer book till sequence bundle q) ≡ refuses number place detail us → Among sale_numbers number
 the_numbers_of_a_sale book till sequence bundle q = refused_among sale_numbers (sale_follows book till sequence bundle q) (sale_numbers_lem bundle book till sequence q)
 
-pub the_numbers_of_a_cancellation : (book : List ℕ) (till sequence : ℕ) (why : Refusal) (us : List ℕ) → receipt_tells (cancel_answer book till sequence) ≡ refuses why us → Among cancel_numbers (number_of_reason why.reason)
+pub the_numbers_of_a_cancellation : (book : List ℕ) (till sequence : ℕ) (number place detail : ℕ) (us : List ℕ) → receipt_tells (cancel_answer book till sequence) ≡ refuses number place detail us → Among cancel_numbers number
 the_numbers_of_a_cancellation book till sequence = refused_among cancel_numbers (cancel_follows book till sequence) (cancel_numbers_lem book till sequence)
 
-pub the_numbers_of_a_balance : (book : List ℕ) (railway : ℕ) (why : Refusal) (us : List ℕ) → sum_tells (balance_answer book railway) ≡ refuses why us → Among balance_numbers (number_of_reason why.reason)
+pub the_numbers_of_a_balance : (book : List ℕ) (railway : ℕ) (number place detail : ℕ) (us : List ℕ) → sum_tells (balance_answer book railway) ≡ refuses number place detail us → Among balance_numbers number
 the_numbers_of_a_balance book railway = refused_among balance_numbers (balance_follows book railway) (balance_numbers_lem book railway)
 
-pub the_numbers_of_a_total : (book : List ℕ) (why : Refusal) (us : List ℕ) → sum_tells (total_answer book) ≡ refuses why us → Among total_numbers (number_of_reason why.reason)
+pub the_numbers_of_a_total : (book : List ℕ) (number place detail : ℕ) (us : List ℕ) → sum_tells (total_answer book) ≡ refuses number place detail us → Among total_numbers number
 the_numbers_of_a_total book = refused_among total_numbers (total_follows book) (total_numbers_lem book)
 
-pub the_numbers_of_a_count : (book : List ℕ) (why : Refusal) (us : List ℕ) → tally_tells (count_answer book) ≡ refuses why us → Among count_numbers (number_of_reason why.reason)
+pub the_numbers_of_a_count : (book : List ℕ) (number place detail : ℕ) (us : List ℕ) → tally_tells (count_answer book) ≡ refuses number place detail us → Among count_numbers number
 the_numbers_of_a_count book = refused_among count_numbers (count_follows book) (count_numbers_lem book)
 
-pub the_numbers_of_an_entry : (book : List ℕ) (i : ℕ) (why : Refusal) (us : List ℕ) → booking_tells (entry_answer book i) ≡ refuses why us → Among entry_numbers (number_of_reason why.reason)
+pub the_numbers_of_an_entry : (book : List ℕ) (i : ℕ) (number place detail : ℕ) (us : List ℕ) → booking_tells (entry_answer book i) ≡ refuses number place detail us → Among entry_numbers number
 the_numbers_of_an_entry book i = refused_among entry_numbers (entry_follows book i) (entry_numbers_lem book i)
 
-pub the_numbers_of_a_find : (book : List ℕ) (till sequence : ℕ) (why : Refusal) (us : List ℕ) → booking_tells (find_answer book till sequence) ≡ refuses why us → Among find_numbers (number_of_reason why.reason)
+pub the_numbers_of_a_find : (book : List ℕ) (till sequence : ℕ) (number place detail : ℕ) (us : List ℕ) → booking_tells (find_answer book till sequence) ≡ refuses number place detail us → Among find_numbers number
 the_numbers_of_a_find book till sequence = refused_among find_numbers (find_follows book till sequence) (cancel_numbers_lem book till sequence)
 
 -- So each number that any call tells stands in the table of all; 16, a fare above 4,294,967,295 cents, does not, and no call tells it.
 within : (ns : List ℕ) (n : ℕ) → every (λ k. any (eqb k) all_numbers) ns ≡ true → Among ns n → Among all_numbers n
 within = every_among (λ k. any (eqb k) all_numbers)
 
-pub the_numbers_of_any_call : (t : Told) → CallTells t → (why : Refusal) (us : List ℕ) → t ≡ refuses why us → Among all_numbers (number_of_reason why.reason)
+pub the_numbers_of_any_call : (t : Told) → CallTells t → (number place detail : ℕ) (us : List ℕ) → t ≡ refuses number place detail us → Among all_numbers number
 unfolding every any
-the_numbers_of_any_call t (by_verdict bundle) why us e = within verdict_numbers (number_of_reason why.reason) refl (the_numbers_of_a_verdict bundle why us e)
-the_numbers_of_any_call t (by_fare bundle q) why us e = within fare_numbers (number_of_reason why.reason) refl (the_numbers_of_a_fare bundle q why us e)
-the_numbers_of_any_call t (by_sale book till sequence bundle q) why us e = within sale_numbers (number_of_reason why.reason) refl (the_numbers_of_a_sale book till sequence bundle q why us e)
-the_numbers_of_any_call t (by_cancel book till sequence) why us e = within cancel_numbers (number_of_reason why.reason) refl (the_numbers_of_a_cancellation book till sequence why us e)
-the_numbers_of_any_call t (by_balance book railway) why us e = within balance_numbers (number_of_reason why.reason) refl (the_numbers_of_a_balance book railway why us e)
-the_numbers_of_any_call t (by_total book) why us e = within total_numbers (number_of_reason why.reason) refl (the_numbers_of_a_total book why us e)
-the_numbers_of_any_call t (by_count book) why us e = within count_numbers (number_of_reason why.reason) refl (the_numbers_of_a_count book why us e)
-the_numbers_of_any_call t (by_entry book i) why us e = within entry_numbers (number_of_reason why.reason) refl (the_numbers_of_an_entry book i why us e)
-the_numbers_of_any_call t (by_find book till sequence) why us e = within find_numbers (number_of_reason why.reason) refl (the_numbers_of_a_find book till sequence why us e)
+the_numbers_of_any_call t (by_verdict bundle) number place detail us e = within verdict_numbers number refl (the_numbers_of_a_verdict bundle number place detail us e)
+the_numbers_of_any_call t (by_fare bundle q) number place detail us e = within fare_numbers number refl (the_numbers_of_a_fare bundle q number place detail us e)
+the_numbers_of_any_call t (by_sale book till sequence bundle q) number place detail us e = within sale_numbers number refl (the_numbers_of_a_sale book till sequence bundle q number place detail us e)
+the_numbers_of_any_call t (by_cancel book till sequence) number place detail us e = within cancel_numbers number refl (the_numbers_of_a_cancellation book till sequence number place detail us e)
+the_numbers_of_any_call t (by_balance book railway) number place detail us e = within balance_numbers number refl (the_numbers_of_a_balance book railway number place detail us e)
+the_numbers_of_any_call t (by_total book) number place detail us e = within total_numbers number refl (the_numbers_of_a_total book number place detail us e)
+the_numbers_of_any_call t (by_count book) number place detail us e = within count_numbers number refl (the_numbers_of_a_count book number place detail us e)
+the_numbers_of_any_call t (by_entry book i) number place detail us e = within entry_numbers number refl (the_numbers_of_an_entry book i number place detail us e)
+the_numbers_of_any_call t (by_find book till sequence) number place detail us e = within find_numbers number refl (the_numbers_of_a_find book till sequence number place detail us e)
 
-pub no_call_tells_sixteen : (t : Told) → CallTells t → (why : Refusal) (us : List ℕ) → t ≡ refuses why us → number_of_reason why.reason ≡ 16 → ⊥
+pub no_call_tells_sixteen : (t : Told) → CallTells t → (number place detail : ℕ) (us : List ℕ) → t ≡ refuses number place detail us → number ≡ 16 → ⊥
 unfolding any
-no_call_tells_sixteen t c why us e sixteen = never (rw sixteen at (the_numbers_of_any_call t c why us e)) refl
+no_call_tells_sixteen t c number place detail us e sixteen = never (rw sixteen at (the_numbers_of_any_call t c number place detail us e)) refl

@@ -13,10 +13,8 @@ use lib.Dec.{eqb}
 use lib.ListN.{length, get_or, replicate}
 use borrow.Author.Tests.{le-leb}
 use Rattle.std.specs.Prelude.{Result, Ok, Err}
-use Rattle.common.specs.declared.reasons.Reason.{Reason}
-use Rattle.common.specs.declared.reasons.Reason.TheVariants.{OutsideLimits, BookUnsound, NumberOutside, NumberTaken, BookFull, SaleUnknown}
+use Rattle.common.specs.Reasons.{number_of_reason}
 use Rattle.common.specs.Lists.{every, any, sum, up_to}
-use Rattle.common.specs.Checks.{refuse}
 use Rattle.common.specs.declared.Refusal.{Refusal}
 use Rattle.common.proofs.Lists.{upto_same}
 use Rattle.common.proofs.Tests.{both_true, in_range}
@@ -104,7 +102,7 @@ use Rattle.sales.proofs.OneCard.{same_sale as sold-as-it-was, same_sale_words, s
 use Rattle.sales.proofs.OneCardHistory.{same_after, empty_before}
 use Rattle.sales.proofs.AnswersByCase.{not_booked_stays, not_cancelled_stays, refused_stays, refused_cancel_stays}
 use Rattle.offers.specs.Answers.{Told, answers, refuses, tells_values, one_value, verdict_tells, quote_values, fare_tells, booked, already_booked, cancelled, already_cancelled, outcome_values, receipt_tells, sum_tells}
-use Rattle.offers.proofs.Orders.{told_err, told_accepted, told_priced, told_booked, first_parts, booked_told, cancelled_told}
+use Rattle.offers.proofs.Orders.{told_err, told_numbers, told_accepted, told_priced, told_booked, first_parts, booked_told, cancelled_told}
 
 -- DEMAND 2, a bundle. Its records are the whole ones that stand one after the other from its start, and there is one way to cut it so.
 pub the_records_of_a_bundle : (bundle : List ℕ) → Cut bundle (records_of bundle) (rest_of bundle)
@@ -122,14 +120,14 @@ unfolding tells_values
 keeping_the_rules_is_accepted bundle R g = rw (good_accepted bundle R g)
 
 -- it is refused only if the record of that place breaks that rule and none before it breaks any, and if it does.
-pub a_refusal_names_the_first_fault : (bundle : List ℕ) (why : Refusal) (us : List ℕ) → verdict_tells (verdict_of bundle) ≡ refuses why us
-    → Fault bundle (records_of bundle) (rest_of bundle) why.reason why.place why.detail
-a_refusal_names_the_first_fault bundle why us e = refused_fault bundle why (told_err 1 one_value (verdict_of bundle) e)
+pub a_refusal_names_the_first_fault : (bundle : List ℕ) (number place detail : ℕ) (us : List ℕ) → verdict_tells (verdict_of bundle) ≡ refuses number place detail us
+    → Fault bundle (records_of bundle) (rest_of bundle) number place detail
+a_refusal_names_the_first_fault bundle number place detail us e =
+    told_err 1 one_value (Fault bundle (records_of bundle) (rest_of bundle)) (verdict_of bundle) (refused_fault bundle) e
 
-pub the_first_fault_is_refused : (bundle : List ℕ) (R : List Rec) (rest : List ℕ) → Cut bundle R rest → (reason : Reason) (place detail : ℕ)
-    → Fault bundle R rest reason place detail → verdict_tells (verdict_of bundle) ≡ refuses (refuse reason place detail) (0 ∷ [])
-unfolding tells_values
-the_first_fault_is_refused bundle R rest c n p d f = rw (fault_refused bundle R rest c n p d f)
+pub the_first_fault_is_refused : (bundle : List ℕ) (R : List Rec) (rest : List ℕ) → Cut bundle R rest → (number place detail : ℕ)
+    → Fault bundle R rest number place detail → verdict_tells (verdict_of bundle) ≡ refuses number place detail (0 ∷ [])
+the_first_fault_is_refused bundle R rest c n p d f = told_numbers 1 one_value (verdict_of bundle) (fault_refused bundle R rest c n p d f)
 
 -- A FIELD keeps its rule exactly if it says what it may, and A RECORD keeps its rules exactly if each of its fields does. What is read off it is what its bytes say.
 pub a_field_keeps_its_rule_by_its_value : (p : Field) → Memᴰ p values → (body : List ℕ) → length body ≡ length_of p.table
@@ -270,14 +268,14 @@ the_cards_of_a_question_differ q = (differ_means q, means_differ q)
 
 -- A fare is refused only for a fault of the bundle, a question outside its limits (11) or with a card given twice (17), or the first leg that has no CO (12), none that is valid (13), other persons (14)
 -- or a condition unread (15); and if that is so.
-pub a_refused_fare_says_why : (bundle : List ℕ) (q : Question) (why : Refusal) (us : List ℕ) → fare_tells (fare_of bundle q) ≡ refuses why us
-    → NoFare bundle (records_of bundle) (rest_of bundle) q why.reason why.place why.detail
-a_refused_fare_says_why bundle q why us e = no_fare_means bundle q why (told_err 9 quote_values (fare_of bundle q) e)
+pub a_refused_fare_says_why : (bundle : List ℕ) (q : Question) (number place detail : ℕ) (us : List ℕ) → fare_tells (fare_of bundle q) ≡ refuses number place detail us
+    → NoFare bundle (records_of bundle) (rest_of bundle) q number place detail
+a_refused_fare_says_why bundle q number place detail us e =
+    told_err 9 quote_values (NoFare bundle (records_of bundle) (rest_of bundle) q) (fare_of bundle q) (no_fare_means bundle q) e
 
-pub what_says_why_refuses_the_fare : (bundle : List ℕ) (R : List Rec) (rest : List ℕ) → Cut bundle R rest → (q : Question) (reason : Reason) (place detail : ℕ)
-    → NoFare bundle R rest q reason place detail → fare_tells (fare_of bundle q) ≡ refuses (refuse reason place detail) (replicate 9 0)
-unfolding tells_values
-what_says_why_refuses_the_fare bundle R rest c q n p d f = rw (means_no_fare bundle R rest c q n p d f)
+pub what_says_why_refuses_the_fare : (bundle : List ℕ) (R : List Rec) (rest : List ℕ) → Cut bundle R rest → (q : Question) (number place detail : ℕ)
+    → NoFare bundle R rest q number place detail → fare_tells (fare_of bundle q) ≡ refuses number place detail (replicate 9 0)
+what_says_why_refuses_the_fare bundle R rest c q n p d f = told_numbers 9 quote_values (fare_of bundle q) (means_no_fare bundle R rest c q n p d f)
 
 -- An exact amount is rounded to one amount, as a record says; nothing to nothing, so that a discount of 100,000 leaves 0 in every mode.
 pub rounding_has_one_outcome : {mode n f r s : ℕ} → IsRounded mode n f r → IsRounded mode n f s → r ≡ s
@@ -350,19 +348,19 @@ the_cards_of_an_entry_are_counted = entry_cards
 
 module _ (book : List ℕ) (unsound : Sound book → ⊥) where
   pub an_unsound_book_sells_nothing : (till sequence : ℕ) (bundle : List ℕ) (q : Question)
-      → receipt_tells (sale_answer book till sequence bundle q) ≡ refuses (refuse BookUnsound 0 0) (replicate 10 0)
+      → receipt_tells (sale_answer book till sequence bundle q) ≡ refuses 21 0 0 (replicate 10 0)
   unfolding tells_values outcome_values
   an_unsound_book_sells_nothing till sequence bundle q = rw (unsound_sale book unsound till sequence bundle q)
 
-  pub an_unsound_book_cancels_nothing : (till sequence : ℕ) → receipt_tells (cancel_answer book till sequence) ≡ refuses (refuse BookUnsound 0 0) (replicate 10 0)
+  pub an_unsound_book_cancels_nothing : (till sequence : ℕ) → receipt_tells (cancel_answer book till sequence) ≡ refuses 21 0 0 (replicate 10 0)
   unfolding tells_values outcome_values
   an_unsound_book_cancels_nothing till sequence = rw (unsound_cancel book unsound till sequence)
 
-  pub an_unsound_book_has_no_balance : (railway : ℕ) → sum_tells (balance_answer book railway) ≡ refuses (refuse BookUnsound 0 0) (0 ∷ [])
+  pub an_unsound_book_has_no_balance : (railway : ℕ) → sum_tells (balance_answer book railway) ≡ refuses 21 0 0 (0 ∷ [])
   unfolding tells_values
   an_unsound_book_has_no_balance railway = rw (unsound_balance book unsound railway)
 
-  pub an_unsound_book_has_no_total : sum_tells (total_answer book) ≡ refuses (refuse BookUnsound 0 0) (0 ∷ [])
+  pub an_unsound_book_has_no_total : sum_tells (total_answer book) ≡ refuses 21 0 0 (0 ∷ [])
   unfolding tells_values
   an_unsound_book_has_no_total = rw (unsound_total book unsound)
 
@@ -394,7 +392,7 @@ module _ (book : List ℕ) (sound : Sound book) where
   unfolding tells_values
   the_total_of_a_sound_book = rw (book_total book sound)
 
-  pub no_railway_no_balance : (railway : ℕ) → ((1 ≤ railway) × (railway ≤ 9999) → ⊥) → sum_tells (balance_answer book railway) ≡ refuses (refuse OutsideLimits 0 0) (0 ∷ [])
+  pub no_railway_no_balance : (railway : ℕ) → ((1 ≤ railway) × (railway ≤ 9999) → ⊥) → sum_tells (balance_answer book railway) ≡ refuses 11 0 0 (0 ∷ [])
   unfolding tells_values
   no_railway_no_balance railway n = rw (no_railway book sound railway n)
 
@@ -417,11 +415,11 @@ the_limits_of_a_sale_number n = (
 -- question; another question is refused with 23 at that entry.
 module _ (book : List ℕ) (sound : Sound book) (n : Number) where
   pub no_number_no_sale : is_number n ≡ false → (bundle : List ℕ) (q : Question)
-      → receipt_tells (sale_answer book n.till n.sequence bundle q) ≡ refuses (refuse NumberOutside 0 0) (replicate 10 0)
+      → receipt_tells (sale_answer book n.till n.sequence bundle q) ≡ refuses 22 0 0 (replicate 10 0)
   unfolding tells_values outcome_values
   no_number_no_sale e bundle q = rw (sale_without_number book sound n e bundle q)
 
-  pub no_number_no_cancellation : is_number n ≡ false → receipt_tells (cancel_answer book n.till n.sequence) ≡ refuses (refuse NumberOutside 0 0) (replicate 10 0)
+  pub no_number_no_cancellation : is_number n ≡ false → receipt_tells (cancel_answer book n.till n.sequence) ≡ refuses 22 0 0 (replicate 10 0)
   unfolding tells_values outcome_values
   no_number_no_cancellation e = rw (cancel_without_number book sound n e)
 
@@ -435,7 +433,7 @@ module _ (book : List ℕ) (sound : Sound book) (n : Number) where
     a_sale_in_the_book_is_told bundle q e = rw (same_sale book sound n number i inside held bundle q e, status_at book sound i inside)
 
     pub its_number_is_not_used_again : (bundle : List ℕ) (q : Question) → (SameQuestion (question_of entry.asked) q → ⊥)
-        → receipt_tells (sale_answer book n.till n.sequence bundle q) ≡ refuses (refuse NumberTaken i 0) (replicate 10 0)
+        → receipt_tells (sale_answer book n.till n.sequence bundle q) ≡ refuses 23 i 0 (replicate 10 0)
     unfolding tells_values outcome_values
     its_number_is_not_used_again bundle q e = rw (other_sale book sound n number i inside held bundle q e)
 
@@ -451,12 +449,12 @@ module _ (book : List ℕ) (sound : Sound book) (n : Number) where
 -- One that no entry holds is unknown to a cancellation (25); its sale is refused by 24 in a full book, and in one with room is booked with the parts of its fare, or
 -- refused as that is: so also in a stored book that goes on with several cards.
 module _ (book : List ℕ) (sound : Sound book) (n : Number) (number : is_number n ≡ true) (nowhere : HeldNowhere book n.till n.sequence) where
-  pub what_no_entry_holds_is_not_cancelled : receipt_tells (cancel_answer book n.till n.sequence) ≡ refuses (refuse SaleUnknown 0 0) (replicate 10 0)
+  pub what_no_entry_holds_is_not_cancelled : receipt_tells (cancel_answer book n.till n.sequence) ≡ refuses 25 0 0 (replicate 10 0)
   unfolding tells_values outcome_values
   what_no_entry_holds_is_not_cancelled = rw (unknown_cancel book sound n number nowhere)
 
   module _ (bundle : List ℕ) (q : Question) where
-    pub a_full_sound_book_takes_no_sale : 256 ≤ count_of book → receipt_tells (sale_answer book n.till n.sequence bundle q) ≡ refuses (refuse BookFull 0 0) (replicate 10 0)
+    pub a_full_sound_book_takes_no_sale : 256 ≤ count_of book → receipt_tells (sale_answer book n.till n.sequence bundle q) ≡ refuses 24 0 0 (replicate 10 0)
     unfolding tells_values outcome_values
     a_full_sound_book_takes_no_sale f = rw (sale_when_full book sound n number nowhere bundle q f)
 
@@ -467,7 +465,7 @@ module _ (book : List ℕ) (sound : Sound book) (n : Number) (number : is_number
       a_sound_book_books_a_sale_with_its_fare quote e = rw (sale_booked book sound n number nowhere bundle q room quote e)
 
       pub a_sound_book_refuses_a_sale_as_its_fare : (why : Refusal) → fare_of bundle q ≡ Err why
-          → receipt_tells (sale_answer book n.till n.sequence bundle q) ≡ refuses why (replicate 10 0)
+          → receipt_tells (sale_answer book n.till n.sequence bundle q) ≡ refuses (number_of_reason why.reason) why.place why.detail (replicate 10 0)
       unfolding tells_values outcome_values
       a_sound_book_refuses_a_sale_as_its_fare why e = rw (sale_refused book sound n number nowhere bundle q room why e)
 
@@ -494,7 +492,7 @@ module _ (ops : List Op) where
   -- A number that was never booked is unknown to a cancellation (25); its sale is refused after 256 bookings (24), and before is booked with the parts of its
   -- fare, or refused as that is.
   module _ (n : Number) (number : is_number n ≡ true) (new : is_in n (booked_by [] ops) ≡ false) where
-    pub an_unknown_sale_is_not_cancelled : receipt_tells (cancel_answer (after empty_book ops) n.till n.sequence) ≡ refuses (refuse SaleUnknown 0 0) (replicate 10 0)
+    pub an_unknown_sale_is_not_cancelled : receipt_tells (cancel_answer (after empty_book ops) n.till n.sequence) ≡ refuses 25 0 0 (replicate 10 0)
     unfolding tells_values outcome_values
     an_unknown_sale_is_not_cancelled = rw (unknown_is_told ops n number new)
 
@@ -502,7 +500,7 @@ module _ (ops : List Op) where
       abbrev told : Told
       told = receipt_tells (sale_answer (after empty_book ops) n.till n.sequence bundle q)
 
-      pub a_full_book_takes_no_sale : 256 ≤ length (booked_by [] ops) → told ≡ refuses (refuse BookFull 0 0) (replicate 10 0)
+      pub a_full_book_takes_no_sale : 256 ≤ length (booked_by [] ops) → told ≡ refuses 24 0 0 (replicate 10 0)
       unfolding tells_values outcome_values
       a_full_book_takes_no_sale f = rw (full_is_told ops n number new bundle q f)
 
@@ -511,7 +509,7 @@ module _ (ops : List Op) where
         unfolding tells_values outcome_values
         a_sale_is_booked_with_its_fare quote e = rw (first_is_booked ops n number new bundle q room quote e)
 
-        pub a_sale_is_refused_as_its_fare : (why : Refusal) → fare_of bundle q ≡ Err why → told ≡ refuses why (replicate 10 0)
+        pub a_sale_is_refused_as_its_fare : (why : Refusal) → fare_of bundle q ≡ Err why → told ≡ refuses (number_of_reason why.reason) why.place why.detail (replicate 10 0)
         unfolding tells_values outcome_values
         a_sale_is_refused_as_its_fare why e = rw (first_is_refused ops n number new bundle q room why e)
 
@@ -534,17 +532,17 @@ module _ (first : List Op) (n : Number) (bundle : List ℕ) (q : Question) (more
       number_told false = refl
 
   pub another_question_is_refused : (bundle' : List ℕ) (q' : Question) → (SameQuestion q q' → ⊥)
-      → receipt_tells (sale_answer now n.till n.sequence bundle' q') ≡ refuses (refuse NumberTaken (length (booked_by [] first)) 0) (replicate 10 0)
+      → receipt_tells (sale_answer now n.till n.sequence bundle' q') ≡ refuses 23 (length (booked_by [] first)) 0 (replicate 10 0)
   unfolding tells_values outcome_values
   another_question_is_refused bundle' q' e = let b = told_booked _ parts sold in rw (refused_other first n bundle q more b.1 b.2 bundle' q' e)
 
   -- So is a question with another card in one of the four slots: the order of the cards is part of it, and 5 and 7 are not 7 and 5.
   pub another_card_is_refused : (bundle' : List ℕ) (q' : Question) (k : ℕ) → k < 4 → (card_at q k ≡ card_at q' k → ⊥)
-      → receipt_tells (sale_answer now n.till n.sequence bundle' q') ≡ refuses (refuse NumberTaken (length (booked_by [] first)) 0) (replicate 10 0)
+      → receipt_tells (sale_answer now n.till n.sequence bundle' q') ≡ refuses 23 (length (booked_by [] first)) 0 (replicate 10 0)
   another_card_is_refused bundle' q' k l other = another_question_is_refused bundle' q' (λ s. other (s.cards k l))
 
   pub swapped_cards_are_refused : (bundle' : List ℕ) (q' : Question) → q.cards ≡ 5 ∷ 7 ∷ 0 ∷ 0 ∷ [] → q'.cards ≡ 7 ∷ 5 ∷ 0 ∷ 0 ∷ []
-      → receipt_tells (sale_answer now n.till n.sequence bundle' q') ≡ refuses (refuse NumberTaken (length (booked_by [] first)) 0) (replicate 10 0)
+      → receipt_tells (sale_answer now n.till n.sequence bundle' q') ≡ refuses 23 (length (booked_by [] first)) 0 (replicate 10 0)
   swapped_cards_are_refused bundle' q' a b =
       another_card_is_refused bundle' q' 0 (omega arith)
       (λ e. let z : 5 ≡ 7 = sym (ap (λ cards. get_or cards 0 0) a) ∙ (e ∙ ap (λ cards. get_or cards 0 0) b) in absurd (omega (arith, z)))

@@ -6,9 +6,6 @@ use mathlib.Core.Bool.{true, false}
 use mathlib.Core.List.{List, [], ◌∷◌, ◌++◌}
 use lib.ListN.{length, get_or, replicate}
 use Rattle.std.specs.Prelude.{Ok}
-use Rattle.common.specs.declared.reasons.Reason.{Reason}
-use Rattle.common.specs.declared.reasons.Reason.TheVariants.{BookUnsound, NumberOutside, SaleUnknown}
-use Rattle.common.specs.Checks.{refuse}
 use Rattle.fares.specs.declared.Question.{Question}
 use Rattle.book.specs.Words.{count_of, entry_at, question_of}
 use Rattle.book.specs.Status.{number_of_status}
@@ -26,20 +23,20 @@ use Rattle.offers.specs.Answers.{Told, answers, refuses, tells_values, booked, a
 use Rattle.offers.proofs.Orders.{told_booked, first_parts}
 
 -- refused, with every value zero
-abbrev no_sale : Reason → Told
-no_sale reason = refuses (refuse reason 0 0) (replicate booking_width 0)
+abbrev no_sale : ℕ → Told
+no_sale number = refuses number 0 0 (replicate booking_width 0)
 
 -- Nothing is read of an unsound book.
 module _ (book : List ℕ) (unsound : Sound book → ⊥) where
-  pub an_unsound_book_is_not_counted : tally_tells (count_answer book) ≡ refuses (refuse BookUnsound 0 0) (0 ∷ [])
+  pub an_unsound_book_is_not_counted : tally_tells (count_answer book) ≡ refuses 21 0 0 (0 ∷ [])
   unfolding tells_values
   an_unsound_book_is_not_counted = rw (unsound_count book unsound)
 
-  pub an_unsound_book_lists_nothing : (i : ℕ) → booking_tells (entry_answer book i) ≡ no_sale BookUnsound
+  pub an_unsound_book_lists_nothing : (i : ℕ) → booking_tells (entry_answer book i) ≡ no_sale 21
   unfolding tells_values
   an_unsound_book_lists_nothing i = rw (unsound_entry book unsound i)
 
-  pub nothing_is_found_in_an_unsound_book : (till sequence : ℕ) → booking_tells (find_answer book till sequence) ≡ no_sale BookUnsound
+  pub nothing_is_found_in_an_unsound_book : (till sequence : ℕ) → booking_tells (find_answer book till sequence) ≡ no_sale 21
   unfolding tells_values
   nothing_is_found_in_an_unsound_book till sequence = rw (unsound_find book unsound till sequence)
 
@@ -60,18 +57,18 @@ module _ (book : List ℕ) (sound : Sound book) where
       let e = entry_at book i in
       ap (λ word. i ∷ e.till ∷ e.sequence ∷ word ∷ (question_values (question_of e.asked) ++ e.parts)) (status_at book sound i l)
 
-  pub nothing_is_listed_behind_the_entries : (i : ℕ) → count_of book ≤ i → booking_tells (entry_answer book i) ≡ no_sale SaleUnknown
+  pub nothing_is_listed_behind_the_entries : (i : ℕ) → count_of book ≤ i → booking_tells (entry_answer book i) ≡ no_sale 25
   unfolding tells_values
   nothing_is_listed_behind_the_entries i l = rw (no_sale_at book sound i l)
 
   -- A number outside its limits is refused with 22, and one that no entry holds with 25. One that entry i holds is told that entry; and what is told so is what its
   -- sale is told if it is sent again.
   module _ (n : Number) where
-    pub no_number_nothing_found : is_number n ≡ false → booking_tells (find_answer book n.till n.sequence) ≡ no_sale NumberOutside
+    pub no_number_nothing_found : is_number n ≡ false → booking_tells (find_answer book n.till n.sequence) ≡ no_sale 22
     unfolding tells_values
     no_number_nothing_found e = rw (find_without_number book sound n e)
 
-    pub what_no_entry_holds_is_not_found : is_number n ≡ true → HeldNowhere book n.till n.sequence → booking_tells (find_answer book n.till n.sequence) ≡ no_sale SaleUnknown
+    pub what_no_entry_holds_is_not_found : is_number n ≡ true → HeldNowhere book n.till n.sequence → booking_tells (find_answer book n.till n.sequence) ≡ no_sale 25
     unfolding tells_values
     what_no_entry_holds_is_not_found number nowhere = rw (unknown_find book sound n number nowhere)
 
@@ -103,11 +100,11 @@ module _ (ops : List Op) where
       (s : Booking) × (entry_answer book k ≡ Ok s) × (s.till ≡ n.till) × (s.sequence ≡ n.sequence)
   they_are_listed_as_they_were_booked = number_is_told ops
 
-  pub no_more_are_listed_than_were_booked : (k : ℕ) → length (booked_by [] ops) ≤ k → booking_tells (entry_answer book k) ≡ no_sale SaleUnknown
+  pub no_more_are_listed_than_were_booked : (k : ℕ) → length (booked_by [] ops) ≤ k → booking_tells (entry_answer book k) ≡ no_sale 25
   unfolding tells_values
   no_more_are_listed_than_were_booked k l = rw (nothing_behind ops k l)
 
-  pub a_number_never_booked_is_not_found : (n : Number) → is_number n ≡ true → is_in n (booked_by [] ops) ≡ false → booking_tells (find_answer book n.till n.sequence) ≡ no_sale SaleUnknown
+  pub a_number_never_booked_is_not_found : (n : Number) → is_number n ≡ true → is_in n (booked_by [] ops) ≡ false → booking_tells (find_answer book n.till n.sequence) ≡ no_sale 25
   unfolding tells_values
   a_number_never_booked_is_not_found n number new = rw (unknown_is_not_found ops n number new)
 

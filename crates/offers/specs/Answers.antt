@@ -2,7 +2,8 @@
 -- Assumes nothing.
 use Rattle.std.specs.Prelude.{ℕ, ◌≡◌, replicate, Result, Ok, Err}
 use mathlib.Core.List.{List, [], ◌∷◌, ◌++◌, flat_map}
-use Rattle.common.specs.Checks.{Check, AllPass, First}
+use Rattle.common.specs.Reasons.{number_of_reason}
+use Rattle.common.specs.Checks.{Check, AllPass, FirstIs}
 use Rattle.common.specs.declared.Refusal.{Refusal}
 use Rattle.fares.specs.declared.Leg.{Leg}
 use Rattle.fares.specs.declared.Question.{Question}
@@ -16,12 +17,12 @@ use Rattle.sales.specs.declared.Booking.{Booking}
 -- an answer with its values, or a refusal (number, place and detail) and the values that go with it
 pub data Told : Type 0 where
   answers : List ℕ → Told
-  refuses : Refusal → List ℕ → Told
+  refuses : (number place detail : ℕ) → List ℕ → Told
 
 -- WHAT AN ANSWER OF n VALUES TELLS: these, or a refusal. "Every refusal answers with all amounts zero"
 unfoldable pub tells_values : {A : Type 0} → ℕ → (A → List ℕ) → Result A Refusal → Told
 tells_values n values (Ok a) = answers (values a)
-tells_values n values (Err why) = refuses why (replicate n 0)
+tells_values n values (Err why) = refuses (number_of_reason why.reason) why.place why.detail (replicate n 0)
 
 abbrev pub one_value : ℕ → List ℕ
 one_value n = n ∷ []
@@ -92,7 +93,7 @@ booking_tells r = tells_values booking_width booking_values r
 -- AN ANSWER FOLLOWS AN ORDER OF CHECKS: it is refused by the first that fails, with all n values zero, and by no other; where none fails it is
 -- answered with the values vs, and with no other.
 pub record Follows (t : Told) (cs : List Check) (n : ℕ) (vs : List ℕ) : Type 0 where
-  pub refused_by : (why : Refusal) (us : List ℕ) → t ≡ refuses why us → First cs why × (us ≡ replicate n 0)
-  pub first_refuses : (why : Refusal) → First cs why → t ≡ refuses why (replicate n 0)
+  pub refused_by : (number place detail : ℕ) (us : List ℕ) → t ≡ refuses number place detail us → FirstIs cs number place detail × (us ≡ replicate n 0)
+  pub first_refuses : (number place detail : ℕ) → FirstIs cs number place detail → t ≡ refuses number place detail (replicate n 0)
   pub answered_if : (us : List ℕ) → t ≡ answers us → AllPass cs × (us ≡ vs)
   pub passing_answers : AllPass cs → t ≡ answers vs
