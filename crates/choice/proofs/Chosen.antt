@@ -30,7 +30,7 @@ use Rattle.choice.specs.declared.Choice.TheVariants.{At, NotThatDay, Nothing}
 use Rattle.choice.proofs.Unique.{only_one}
 
 -- THE TESTS of a record say what it is for
-module _ (w : Wanted) (o : of_offers w.table ≡ true) (r : Rec) where
+module _ (w : Wanted Table) (o : of_offers w.table ≡ true) (r : Rec) where
   abbrev t : Table
   t = w.table
 
@@ -102,7 +102,7 @@ module _ (w : Wanted) (o : of_offers w.table ≡ true) (r : Rec) where
       rw d.0 (is_same _ _ (same_company (railway_of r.body) _ n (railway_kept t o r.body (rw (← f.table) keeps)) refl d.1))
 
 -- WHAT IS CHOSEN, from the records of a good bundle
-module _ (s : List ℕ) (R : List Rec) (g : Good s R) (w : Wanted) (legs : for_legs w.table ≡ true) where
+module _ (s : List ℕ) (R : List Rec) (g : Good s R) (w : Wanted Table) (legs : for_legs w.table ≡ true) where
   abbrev n : ℕ
   n = length R
 

@@ -31,7 +31,7 @@ use Rattle.choice.specs.declared.Role.TheVariants.{Other, General, Own, OffItsDa
 use Rattle.choice.specs.declared.Wanted.{Wanted}
 
 -- A RECORD HELD AGAINST WHAT IS WANTED, test by test
-module _ (w : Wanted) (r : Rec) where
+module _ (w : Wanted Table) (r : Rec) where
   pub by_table : is_table r.table w.table ≡ false → Other ≡ whose_of w r
   unfolding whose_of is_of
   by_table n = rw n
@@ -70,7 +70,7 @@ day_kept Own b n = refl
 day_kept OffItsDays true n = refl
 day_kept OffItsDays false n = refl
 
-module _ (w : Wanted) (r : Rec) {o : Role} (e : o ≡ whose_of w r) where
+module _ (w : Wanted Table) (r : Rec) {o : Role} (e : o ≡ whose_of w r) where
   pub by_other : o ≡ Other → Other ≡ fit_of w r
   unfolding fit_of
   by_other z = rw (← e) (day_other o (is_valid w r) z)
@@ -110,7 +110,7 @@ other_by true false true false f = refl
 other_by true false false v f = refl
 other_by false b d v f = refl
 
-module _ (w : Wanted) (r : Rec) {f : Role} (e : f ≡ fit_of w r) where
+module _ (w : Wanted Table) (r : Rec) {f : Role} (e : f ≡ fit_of w r) where
   abbrev of_it : Bool
   of_it = is_of w r
 
@@ -166,7 +166,7 @@ next_found p j false false e q =
     let z : least p j ≡ j = le_antisymm (within p j) (ltb-false (least p j) j e) in
     (rw (more p j z q) (le-ltb (j + 1) (j + 1) (omega arith)), λ h. never h refl)
 
-module _ (s : List ℕ) (w : Wanted) where
+module _ (s : List ℕ) (w : Wanted Table) where
   abbrev R : List Rec
   R = records_of s
 
@@ -245,7 +245,7 @@ came_by false false true x y k e = let z : ◌≡◌ {A = ℕ} 0 1 = cc in absur
 came_by false false false x y k e = let z : ◌≡◌ {A = ℕ} 0 1 = cc in absurd (omega arith)
 
 -- the record chosen is one of the records
-pub choice_inside : (R : List Rec) (w : Wanted) (i : ℕ) → choice_of R w ≡ At i → i < length R
+pub choice_inside : (R : List Rec) (w : Wanted Table) (i : ℕ) → choice_of R w ≡ At i → i < length R
 unfolding choice_of
 choice_inside R w i e =
     let own = first_with (λ r. is_own w r && is_valid w r) R in
@@ -253,7 +253,7 @@ choice_inside R w i e =
     ⊎_elim (λ p. omega (arith, ltb-true own (length R) p.0, p.1)) (λ p. omega (arith, ltb-true general (length R) p.0, p.1))
     (came_by (ltb own (length R)) (ltb general (length R)) (ltb (first_with (is_either w) R) (length R)) own general i e)
 
-pub chosen_at : (s : List ℕ) (w : Wanted) (p : ℕ) → at_place s (choice_of (records_of s) w) ≡ At p
+pub chosen_at : (s : List ℕ) (w : Wanted Table) (p : ℕ) → at_place s (choice_of (records_of s) w) ≡ At p
     → (i : ℕ) × (choice_of (records_of s) w ≡ At i) × (body_at s p ≡ (get_or (records_of s) i no_rec).body)
 chosen_at s w p e =
     let a = is_at s (choice_of (records_of s) w) p e in

@@ -20,23 +20,27 @@ is_keyed t f = eqb f 2 || (eqb f 3 || (eqb f (table_at t).code && not (eqb (tabl
 unfoldable pub for_legs : Table → Bool
 for_legs t = of_offers t && every (is_keyed t) (table_at t).key
 
+-- what is wanted, of this table
+abbrev pub of_table : {T : Type 0} → Table → Wanted T → Wanted Table
+of_table t w = record { table = t; offer = w.offer; railway = w.railway; code = w.code; day = w.day }
+
 -- a record of the table, of the offer and, where the table has one, of the code
-unfoldable pub is_of : Wanted → Rec → Bool
+unfoldable pub is_of : Wanted Table → Rec → Bool
 is_of w r =
     is_table r.table w.table && (eqb (value_of (number_of (offer_of r.body))) w.offer && code_fits w.table w.code r.body)
 
 -- the railway's own, one for all railways, and either of them
-abbrev pub is_own : Wanted → Rec → Bool
+abbrev pub is_own : Wanted Table → Rec → Bool
 is_own w r = is_of w r && eqb (company_of (railway_of r.body)) w.railway
 
-abbrev pub is_general : Wanted → Rec → Bool
+abbrev pub is_general : Wanted Table → Rec → Bool
 is_general w r = is_of w r && is_all_railways (railway_of r.body)
 
-abbrev pub is_either : Wanted → Rec → Bool
+abbrev pub is_either : Wanted Table → Rec → Bool
 is_either w r = is_own w r || is_general w r
 
 -- valid that day
-abbrev pub is_valid : Wanted → Rec → Bool
+abbrev pub is_valid : Wanted Table → Rec → Bool
 is_valid w r = holds_day w.table r.body w.day
 
 -- the first record of some that passes, by its number; how many there are where none does
@@ -45,7 +49,7 @@ first_with p R = least (λ i. p (get_or R i no_rec)) (length R)
 
 -- THE RECORD, by its number among the records: "the railway's own one valid that day, else the 0000 one valid that day"; or records "of that railway or 0000
 -- exist and none is valid"; or "there are none"
-unfoldable pub choice_of : List Rec → Wanted → Choice
+unfoldable pub choice_of : List Rec → Wanted Table → Choice
 choice_of R w =
     let own : ℕ = first_with (λ r. is_own w r && is_valid w r) R in
     let general : ℕ = first_with (λ r. is_general w r && is_valid w r) R in

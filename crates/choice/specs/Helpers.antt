@@ -1,6 +1,7 @@
 -- What the code's helpers answer. Nothing here has to be believed: no promise and no answer of a call is stated with it.
 -- Assumes nothing.
 use Rattle.std.specs.Prelude.{ℕ, Bool, cond, List, eqb, get_or}
+use Rattle.layout.specs.declared.Table.{Table}
 use Rattle.layout.specs.Company.{company_of, is_all_railways}
 use Rattle.layout.specs.Fields.{railway_of}
 use Rattle.bundle.specs.Records.{Rec}
@@ -19,7 +20,7 @@ at_place s NotThatDay = NotThatDay
 at_place s Nothing = Nothing
 
 -- whether a record is the railway's own, one for all railways, or another
-unfoldable pub whose_of : Wanted → Rec → Role
+unfoldable pub whose_of : Wanted Table → Rec → Role
 whose_of w r =
     cond (is_of w r) (cond (eqb (company_of (railway_of r.body)) w.railway) Own (cond (is_all_railways (railway_of r.body)) General Other)) Other
 
@@ -30,7 +31,7 @@ by_day valid General = cond valid General OffItsDays
 by_day valid Own = cond valid Own OffItsDays
 by_day valid OffItsDays = OffItsDays
 
-unfoldable pub fit_of : Wanted → Rec → Role
+unfoldable pub fit_of : Wanted Table → Rec → Role
 fit_of w r = by_day (is_valid w r) (whose_of w r)
 
 -- what is chosen as long as no own record is met, once the record at a place was looked at: the first place stays

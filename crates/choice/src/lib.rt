@@ -2,17 +2,20 @@
 #![tactic(auto)]
 
 ghost use Rattle.std.specs.Prelude.{◌≡◌};
+ghost use Rattle.layout.specs.Numbered.{of_named};
 ghost use Rattle.bundle.specs.Records.{rec, records_of};
-ghost use Rattle.choice.specs.Choice.{choice_of};
+ghost use Rattle.choice.specs.Choice.{of_table, choice_of};
+ghost use Rattle.choice.specs.declared.Choice.TheVariants.{Nothing};
 ghost use Rattle.choice.specs.Helpers.{at_place, whose_of, fit_of, noted_at};
 
 use bundle::walk::Step;
 use layout::Table;
+use layout::named::NamesTable;
 
 // What is wanted of a record: its table, and the offer, railway, code and day that are asked for. The code of a table that has none is not looked at.
 #[derive(Clone, Copy)]
-pub struct Wanted {
-    pub table: Table,
+pub struct Wanted<T = Table> {
+    pub table: T,
     pub offer: u32,
     pub railway: u32,
     pub code: u32,
@@ -90,9 +93,20 @@ fn noted(before: Choice, f: Role, place: usize) -> Choice
     Choice::NotThatDay
 }
 
-pub fn choose(bundle: &[u8], wanted: Wanted) -> Choice
-    ensures { result ≡ at_place bundle.now (choice_of (records_of bundle.now) wanted) }
+// Nothing where what is wanted is of no table.
+pub fn choose<T: NamesTable>(bundle: &[u8], wanted: Wanted<T>) -> Choice
+    ensures { result ≡ of_named Nothing (λ t. at_place bundle.now (choice_of (records_of bundle.now) (of_table t wanted))) (T.named wanted.table) }
 {
+    let Ok(table) = wanted.table.named() else {
+        return Choice::Nothing;
+    };
+    let wanted = Wanted {
+        table,
+        offer: wanted.offer,
+        railway: wanted.railway,
+        code: wanted.code,
+        day: wanted.day,
+    };
     let mut chosen = Choice::Nothing;
     let mut at = 0;
     while let Step::Whole(table, start, next) = bundle::walk::step_at(bundle, at) {

@@ -19,7 +19,7 @@ use Rattle.fares.specs.declared.Leg.{Leg}
 use Rattle.fares.specs.declared.Question.{Question}
 
 -- WHICH RECORDS. What is wanted of a record for a leg: its table, a code, and the offer, the leg's railway and the day
-abbrev pub wanted_for : Table → ℕ → Question → Leg → Wanted
+abbrev pub wanted_for : Table → ℕ → Question → Leg → Wanted Table
 wanted_for t c q leg = record { table = t; offer = q.offer; railway = leg.railway; code = c; day = q.day }
 
 -- "The record for a leg is then the railway's own one valid that day, else the 0000 one valid that day"

@@ -1,12 +1,13 @@
 -- What the code's helpers answer. Nothing here has to be believed: no promise and no answer of a call is stated with it.
 -- Assumes nothing.
-use Rattle.std.specs.Prelude.{ℕ, ◌+◌, ◌-◌, ◌*◌, Bool, cond, List, map, eqb, length, take}
+use Rattle.std.specs.Prelude.{ℕ, ◌+◌, ◌-◌, ◌*◌, Bool, cond, List, map, eqb, length, take, Result, Ok, Err}
 use Rattle.common.specs.Lists.{sum, byte_at}
 use Rattle.common.specs.Ranks.{rank_of}
 use Rattle.layout.specs.Layout.{each_table, table_number, table_at}
 use Rattle.layout.specs.Fields.{field_at, row_of}
 use Rattle.layout.specs.Rules.{kept_beside}
 use Rattle.layout.specs.declared.Table.{Table}
+use Rattle.layout.specs.declared.NoTable.{NoTable}
 use Rattle.layout.specs.declared.rows.Row.{Row}
 use Rattle.layout.specs.declared.fields.Span.{Span}
 
@@ -31,6 +32,11 @@ table_step = 1000003
 
 unfoldable pub key_number : Table → List ℕ → ℕ
 key_number t body = rank_of (field_at 5 (key_length t) body) + table_number t * table_step
+
+-- the same of what is named: a number that is no table's has no key
+abbrev pub named_key_number : Result Table NoTable → List ℕ → ℕ
+named_key_number (Ok t) body = key_number t body
+named_key_number (Err number) body = number.0 * table_step
 
 -- a record keeps the rule of a row, whatever its table: the least persons and the rounding are read right before it, the first day before the version
 unfoldable pub obeys_row : List ℕ → Row → Bool

@@ -1,13 +1,15 @@
 // Readers of a record's fields. Each says what it reads; the positions are those of the table of rows.
 #![tactic(auto, unfolding(crate::specs::Fields::transferor_of, crate::specs::Fields::offer_of, crate::specs::Fields::railway_of, crate::specs::Fields::is_yes, crate::specs::Fields::number_in, crate::specs::Fields::byte_of, crate::specs::Fields::bytes_of, crate::specs::Fields::grant_in, crate::specs::Fields::row_of, crate::specs::Fields::row_with, crate::specs::Helpers::code_span, crate::specs::Helpers::key_length, crate::specs::Helpers::key_number, crate::specs::Layout::table_at, common::specs::Lists::sum))]
 
-ghost use Rattle.std.specs.Prelude.{◌≡◌};
+ghost use Rattle.std.specs.Prelude.{◌≡◌, true, false, []};
 ghost use Rattle.common.specs.Digits.{number_of, value_of};
 ghost use Rattle.layout.specs.Layout.{CO as inCO, AR as inAR};
+ghost use Rattle.layout.specs.Numbered.{of_named};
 ghost use Rattle.layout.specs.Fields.{field_at, number_in, is_yes, transferor_of, offer_of, railway_of, code_of, code_fits, same_key, first_day, last_day, holds_day, first_shared, last_shared, share_day, grant_in};
-ghost use Rattle.layout.specs.Helpers.{code_span, key_length, key_number};
+ghost use Rattle.layout.specs.Helpers.{code_span, key_length, named_key_number};
 
-use super::Table;
+use super::named::NamesTable;
+use super::{NoTable, Table};
 
 // The bytes from a position on, which counts from 1.
 pub fn field(body: &[u8], start: usize, length: usize) -> &[u8]
@@ -63,18 +65,24 @@ fn code_span(table: Table) -> Span
     }
 }
 
-// The code of a record, nothing where its table has none.
-pub fn code(table: Table, body: &[u8]) -> &[u8]
-    ensures { result.now ≡ code_of table body.now }
+// The code of a record, nothing where its table has none or there is no table.
+pub fn code<T: NamesTable>(table: T, body: &[u8]) -> &[u8]
+    ensures { result.now ≡ of_named [] (λ t. code_of t body.now) (T.named table) }
 {
+    let Ok(table) = table.named() else {
+        return &body[0..0];
+    };
     let span = code_span(table);
     field(body, span.0, span.1)
 }
 
 // Whether a record has a code, if its table has one.
-pub fn code_fits(table: Table, code: u32, body: &[u8]) -> bool
-    ensures { result ≡ code_fits table code body.now }
+pub fn code_fits<T: NamesTable>(table: T, code: u32, body: &[u8]) -> bool
+    ensures { result ≡ of_named true (λ t. code_fits t code body.now) (T.named table) }
 {
+    let Ok(table) = table.named() else {
+        return true;
+    };
     let span = code_span(table);
     if span.1 == 0 {
         return true;
@@ -98,18 +106,24 @@ fn key_length(table: Table) -> usize
 pub const TABLE_STEP: u64 = 1000003;
 
 // Whether two records of a table have the same key. Its fields stand one behind the other, so that they are compared at once.
-pub fn same_key<'a>(table: Table, a: &'a [u8], b: &'a [u8]) -> bool
-    ensures { result ≡ same_key table a.now b.now }
+pub fn same_key<'a, T: NamesTable>(table: T, a: &'a [u8], b: &'a [u8]) -> bool
+    ensures { result ≡ of_named true (λ t. same_key t a.now b.now) (T.named table) }
 {
+    let Ok(table) = table.named() else {
+        return true;
+    };
     let n = key_length(table);
     common::same_bytes(field(a, 5, n), field(b, 5, n))
 }
 
-// One number for a record's table and key.
-pub fn key_number(table: Table, body: &[u8]) -> u64
-    ensures { result ≡ key_number table body.now }
+// One number for a record's table and key; a number that is no table's has no key.
+pub fn key_number<T: NamesTable>(table: T, body: &[u8]) -> u64
+    ensures { result ≡ named_key_number (T.named table) body.now }
 {
-    common::rank(field(body, 5, key_length(table))) + super::number_of(table) * TABLE_STEP
+    match table.named() {
+        Ok(t) => common::rank(field(body, 5, key_length(t))) + super::number_of(t) * TABLE_STEP,
+        Err(NoTable(number)) => number as u64 * TABLE_STEP,
+    }
 }
 
 // The day there, 0 where there is none. Where there are eight bytes they are read without a loop, as their number is known.
@@ -123,30 +137,42 @@ fn day_at(body: &[u8], start: usize) -> u32
     common::number(&s[0..8]).unwrap_or(0)
 }
 
-// The first and the last day of a record's period: its last 18 bytes are the first day, the version and the last day.
-pub fn first_day(table: Table, body: &[u8]) -> u32
-    ensures { result ≡ first_day table body.now }
+// The first and the last day of a record's period, 0 for no table: its last 18 bytes are the first day, the version and the last day.
+pub fn first_day<T: NamesTable>(table: T, body: &[u8]) -> u32
+    ensures { result ≡ of_named 0 (λ t. first_day t body.now) (T.named table) }
 {
+    let Ok(table) = table.named() else {
+        return 0;
+    };
     day_at(body, super::length_of(table).saturating_sub(17))
 }
 
-pub fn last_day(table: Table, body: &[u8]) -> u32
-    ensures { result ≡ last_day table body.now }
+pub fn last_day<T: NamesTable>(table: T, body: &[u8]) -> u32
+    ensures { result ≡ of_named 0 (λ t. last_day t body.now) (T.named table) }
 {
+    let Ok(table) = table.named() else {
+        return 0;
+    };
     day_at(body, super::length_of(table).saturating_sub(7))
 }
 
 // Whether a day lies in the period of a record.
-pub fn holds_day(table: Table, body: &[u8], day: u32) -> bool
-    ensures { result ≡ holds_day table body.now day }
+pub fn holds_day<T: NamesTable>(table: T, body: &[u8], day: u32) -> bool
+    ensures { result ≡ of_named false (λ t. holds_day t body.now day) (T.named table) }
 {
+    let Ok(table) = table.named() else {
+        return false;
+    };
     first_day(table, body) <= day && day <= last_day(table, body)
 }
 
 // The first day that the periods of two records of a table share, if they share any: the later first day.
-pub fn first_shared_day<'a>(table: Table, a: &'a [u8], b: &'a [u8]) -> u32
-    ensures { result ≡ first_shared table a.now b.now }
+pub fn first_shared_day<'a, T: NamesTable>(table: T, a: &'a [u8], b: &'a [u8]) -> u32
+    ensures { result ≡ of_named 0 (λ t. first_shared t a.now b.now) (T.named table) }
 {
+    let Ok(table) = table.named() else {
+        return 0;
+    };
     first_day(table, a).max(first_day(table, b))
 }
 
@@ -158,9 +184,12 @@ fn last_shared_day<'a>(table: Table, a: &'a [u8], b: &'a [u8]) -> u32
 }
 
 // Whether they share any. Mostly one period is over before the other begins, and then the other days are not read.
-pub fn share_day<'a>(table: Table, a: &'a [u8], b: &'a [u8]) -> bool
-    ensures { result ≡ share_day table a.now b.now }
+pub fn share_day<'a, T: NamesTable>(table: T, a: &'a [u8], b: &'a [u8]) -> bool
+    ensures { result ≡ of_named true (λ t. share_day t a.now b.now) (T.named table) }
 {
+    let Ok(table) = table.named() else {
+        return true;
+    };
     if last_day(table, b) < first_day(table, a) {
         return false;
     }

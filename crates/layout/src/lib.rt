@@ -3,13 +3,16 @@
 
 ghost use Rattle.std.specs.Prelude.{◌≡◌};
 ghost use Rattle.layout.specs.Layout.{table_number, length_of};
-ghost use Rattle.layout.specs.Numbered.{IsNumbered};
+ghost use Rattle.layout.specs.Numbered.{IsNumbered, of_named};
 
 pub mod company;
 pub mod dates;
 pub mod fields;
+pub mod named;
 pub mod rows;
 pub mod rules;
+
+use named::NamesTable;
 
 // The tables: conditions, types of discount, additional discounts, memos.
 #[derive(Clone, Copy, PartialEq, Eq)]
@@ -52,12 +55,15 @@ impl TryFrom<u32> for Table {
     }
 }
 
-// The length of a table's records without their mark. A `match`, because a constant array would be built anew at each call, and the
-// searches call this at every step.
+// The length of a table's records without their mark, 0 for no table. A `match`, because a constant array would be built anew at each
+// call, and the searches call this at every step.
 #[tactic(auto, unfolding(crate::specs::Layout::length_of, crate::specs::Layout::end_of, crate::specs::Layout::table_at))]
-pub fn length_of(table: Table) -> usize
-    ensures { result ≡ length_of table }
+pub fn length_of<T: NamesTable>(table: T) -> usize
+    ensures { result ≡ of_named 0 length_of (T.named table) }
 {
+    let Ok(table) = table.named() else {
+        return 0;
+    };
     match table {
         Table::Co => 155,
         Table::Re => 440,

@@ -1,11 +1,13 @@
 // THE table of the layout, one row for each field: its number, first position (from 1), length and rule. The record check walks it.
-ghost use Rattle.std.specs.Prelude.{◌≡◌, take, drop, length, eqb};
+ghost use Rattle.std.specs.Prelude.{◌≡◌, [], take, drop, length, eqb};
 ghost use Rattle.layout.specs.declared.rows.Row.{Row as SpecRow};
 ghost use Rattle.layout.specs.Layout.{table_at, layout};
+ghost use Rattle.layout.specs.Numbered.{of_named};
 ghost use Rattle.layout.specs.Fields.{row_with};
 ghost use Rattle.layout.specs.Rules.{first_broken};
 ghost use Rattle.layout.specs.Helpers.{first_row, obeys_row};
 
+use super::named::NamesTable;
 use super::rules::Rule;
 use super::{Table, fields, rules};
 
@@ -100,11 +102,14 @@ pub fn all() -> [Row; ROWS]
     LAYOUT
 }
 
-// The rows of a table among all.
+// The rows of a table among all, none for no table.
 #[tactic(auto, unfolding(crate::specs::Helpers::first_row, common::specs::Lists::sum, crate::specs::Layout::table_at))]
-pub fn of_table(rows: &[Row; ROWS], table: Table) -> &[Row]
-    ensures { result.now ≡ take (length (table_at table).rows) (drop (first_row table) rows.now) }
+pub fn of_table<T: NamesTable>(rows: &[Row; ROWS], table: T) -> &[Row]
+    ensures { result.now ≡ of_named [] (λ t. take (length (table_at t).rows) (drop (first_row t) rows.now)) (T.named table) }
 {
+    let Ok(table) = table.named() else {
+        return &rows[0..0];
+    };
     match table {
         Table::Co => &rows[0..22],
         Table::Re => &rows[22..33],

@@ -10,7 +10,7 @@ use Rattle.choice.proofs.WalkLaws.{own, standing}
 use Rattle.choice.proofs.choose.Given as goal
 
 abbrev pub invariant-loop-table : goal.invariant-loop-table
-invariant-loop-table l = (j : ℕ) × Here l.bundle l.at j × (least (own l.bundle l.wanted) j ≡ j) × (l.chosen ≡ standing l.bundle l.wanted j)
+invariant-loop-table g l = (j : ℕ) × Here l.bundle l.at j × (least (own l.bundle l.wanted) j ≡ j) × (l.chosen ≡ standing l.bundle l.wanted j)
 
 abbrev pub decreases-loop-table : goal.decreases-loop-table
-decreases-loop-table l = length l.bundle - l.at
+decreases-loop-table g l = length l.bundle - l.at

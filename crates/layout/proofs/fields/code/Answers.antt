@@ -5,4 +5,4 @@ use Rattle.layout.proofs.Tables.{code_spanned}
 use Rattle.layout.proofs.fields.code.Goals as goal
 
 pub returns : goal.returns
-returns c = c.field.ensures ∙ rw c.code_span-span.ensures (code_spanned _ _)
+returns g c = rw (← c.named.ensures, c.in-Ok.is) (c.field.ensures ∙ rw c.code_span-span.ensures (code_spanned _ _))

@@ -7,4 +7,4 @@ use Rattle.layout.proofs.fields.first_shared_day.Goals as goal
 
 pub returns : goal.returns
 unfolding first_shared
-returns c = c.max.ensures ∙ rw (c.first_day.ensures, c.first_day-2.ensures) (later_is_max _ _)
+returns g c = rw (← c.named.ensures, c.in-Ok.is) (c.max.ensures ∙ rw (c.first_day.ensures, c.first_day-2.ensures) (later_is_max _ _))

@@ -6,6 +6,6 @@ use Rattle.layout.proofs.fields.last_day.Goals as goal
 
 pub returns : goal.returns
 unfolding last_day
-returns c =
-    let p = period c.args.table in
-    rw (p.last, p.last_long, ← c.length_of.ensures, ← c.saturating_sub.ensures, ← c.day_at.ensures)
+returns g c =
+    let p = period c.in-Ok.table in
+    rw (← c.named.ensures, c.in-Ok.is, p.last, p.last_long, ← c.length_of.ensures, ← c.saturating_sub.ensures, ← c.day_at.ensures)

@@ -5,4 +5,5 @@ use Rattle.layout.proofs.Tables.{key_at_once}
 use Rattle.layout.proofs.fields.same_key.Goals as goal
 
 pub returns : goal.returns
-returns c = c.same_bytes.ensures ∙ rw (c.field-2.ensures, c.field.ensures, c.key_length-n.ensures) (key_at_once _ _ _)
+returns g c =
+    rw (← c.named.ensures, c.in-Ok.is) (c.same_bytes.ensures ∙ rw (c.field-2.ensures, c.field.ensures, c.key_length-n.ensures) (key_at_once _ _ _))
