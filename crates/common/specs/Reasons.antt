@@ -1,9 +1,10 @@
--- THE NUMBERS that turn work away (document 01, 'Numbers that turn work away', and document 02, R-1 and R-13): each reason has its own.
+-- THE NUMBERS that turn work away (document 01, 'Numbers that turn work away', and document 02, R-1 and R-13): each reason has its own. A number that no check tells
+-- may be said too.
 -- Assumes nothing.
 use Rattle.std.specs.Prelude.{ℕ, List, [], ◌∷◌, Result, Ok, Err}
 use Rattle.common.specs.declared.Refusal.{Refusal}
 use Rattle.common.specs.declared.reasons.Reason.{Reason}
-use Rattle.common.specs.declared.reasons.Reason.TheVariants.{BundleTooLong, MarkUnknown, RecordShort, FieldBroken, OtherTransferor, KeyRepeated, LinkMissing, OutsideLimits, NoConditions, DayOutside, PersonsOutside, ConditionUnread, CardTwice, BookUnsound, NumberOutside, NumberTaken, BookFull, SaleUnknown}
+use Rattle.common.specs.declared.reasons.Reason.TheVariants.{BundleTooLong, MarkUnknown, RecordShort, FieldBroken, OtherTransferor, KeyRepeated, LinkMissing, OutsideLimits, NoConditions, DayOutside, PersonsOutside, ConditionUnread, CardTwice, BookUnsound, NumberOutside, NumberTaken, BookFull, SaleUnknown, Unlisted}
 
 -- 16, a fare above 4,294,967,295 cents, went with R-13 and is never used again
 abbrev pub number_of_reason : Reason → ℕ
@@ -25,6 +26,7 @@ number_of_reason NumberOutside = 22
 number_of_reason NumberTaken = 23
 number_of_reason BookFull = 24
 number_of_reason SaleUnknown = 25
+number_of_reason (Unlisted number) = number
 
 -- a refusal in numbers: that of its reason, its place and its detail; nothing where work is answered
 abbrev pub numbers_told : {A : Type 0} → Result A Refusal → List ℕ

@@ -12,7 +12,7 @@ ghost use Rattle.common.specs.Helpers.{four_bytes, four_at};
 pub mod check_digit;
 mod reasons;
 
-pub use reasons::Reason;
+pub use reasons::{NoReason, Reason};
 use std::fmt;
 
 // Why work is turned away, with its place and its detail.

@@ -1,4 +1,4 @@
-// Why work is turned away: one for each check that can fail, in the order of their numbers.
+// Why work is turned away: one for each check that can fail, in the order of their numbers, and any other number.
 ghost use Rattle.std.specs.Prelude.{◌≡◌};
 ghost use Rattle.common.specs.Reasons.{number_of_reason};
 ghost use Rattle.common.specs.Numbered.{IsNumbered};
@@ -23,6 +23,8 @@ pub enum Reason {
     NumberTaken,
     BookFull,
     SaleUnknown,
+    // A number that no check of this engine tells: whoever has a number of another version can still make a refusal of it.
+    Unlisted(u8),
 }
 
 // The number by which the scope document, the books of the crews and the callers in C know it. 16 went, and is not used again.
@@ -49,6 +51,7 @@ impl From<Reason> for u8 {
             Reason::NumberTaken => 23,
             Reason::BookFull => 24,
             Reason::SaleUnknown => 25,
+            Reason::Unlisted(number) => number,
         }
     }
 }

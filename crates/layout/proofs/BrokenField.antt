@@ -18,7 +18,7 @@ use Rattle.layout.specs.declared.Table.{Table}
 use Rattle.layout.specs.declared.Table.TheVariants.{Co, Re, Ar, Me}
 use Rattle.layout.specs.declared.rows.Row.{Row}
 use Rattle.layout.specs.declared.rules.Rule.{Rule}
-use Rattle.layout.specs.declared.rules.Rule.TheVariants.{Text, Transferor, Railway, Number, NumberOrBlank, Flag, FlagOrBlank, MostPersons, Rounding, Factor, FirstDay, LastDay}
+use Rattle.layout.specs.declared.rules.Rule.TheVariants.{Text, Transferor, Railway, Number, NumberOrBlank, Flag, FlagOrBlank, MostPersons, Rounding, Factor, FirstDay, LastDay, Unlisted}
 use Rattle.layout.proofs.Tables.{at_each}
 
 -- THE ROWS OF A TABLE stand in the layout behind those of the tables before it
@@ -72,6 +72,7 @@ looked_back t body row h = go row.rule h
     go LastDay e =
         let d = day_row is_first t in
         let l = both_true (eqb d.start (row.start - 10)) _ e in rw (eqb-true d.start _ l.0, eqb-true d.length 8 l.1)
+    go Unlisted e = refl
 
 -- THE FIRST BROKEN FIELD is that of the first row that the code finds broken
 alike_broken : (p q b : Row → Bool) → ((r : Row) → b r ≡ true → p r ≡ q r) → (rs : List Row) → every b rs ≡ true → first_broken p rs ≡ first_broken q rs

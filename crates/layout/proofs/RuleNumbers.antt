@@ -9,7 +9,7 @@ use Rattle.common.specs.Lists.{same}
 use Rattle.common.proofs.Lists.{same_is}
 use Rattle.layout.specs.declared.rows.Row.{Row}
 use Rattle.layout.specs.declared.rules.Rule.{Rule}
-use Rattle.layout.specs.declared.rules.Rule.TheVariants.{Text, Transferor, Railway, Number, NumberOrBlank, Flag, FlagOrBlank, MostPersons, Rounding, Factor, FirstDay, LastDay}
+use Rattle.layout.specs.declared.rules.Rule.TheVariants.{Text, Transferor, Railway, Number, NumberOrBlank, Flag, FlagOrBlank, MostPersons, Rounding, Factor, FirstDay, LastDay, Unlisted}
 
 -- the kind of a rule, and its limits
 abbrev pub rule_numbers : Rule → List ℕ
@@ -25,6 +25,7 @@ rule_numbers Rounding = 8 ∷ []
 rule_numbers Factor = 9 ∷ []
 rule_numbers FirstDay = 10 ∷ []
 rule_numbers LastDay = 11 ∷ []
+rule_numbers Unlisted = 12 ∷ []
 
 abbrev pub least_of : Rule → ℕ
 least_of r = get_or (rule_numbers r) 1 0
@@ -34,7 +35,7 @@ most_of r = get_or (rule_numbers r) 2 0
 
 abbrev rules_at : ℕ → ℕ → List Rule
 rules_at lowest highest =
-    Text ∷ Transferor ∷ Railway ∷ Number lowest highest ∷ NumberOrBlank lowest highest ∷ Flag ∷ FlagOrBlank ∷ MostPersons ∷ Rounding ∷ Factor ∷ FirstDay ∷ LastDay ∷ []
+    Text ∷ Transferor ∷ Railway ∷ Number lowest highest ∷ NumberOrBlank lowest highest ∷ Flag ∷ FlagOrBlank ∷ MostPersons ∷ Rounding ∷ Factor ∷ FirstDay ∷ LastDay ∷ Unlisted ∷ []
 
 abbrev as_rule : List ℕ → Rule
 as_rule e = get_or (rules_at (get_or e 1 0) (get_or e 2 0)) (get_or e 0 0) Text
@@ -52,6 +53,7 @@ rule_again Rounding = refl
 rule_again Factor = refl
 rule_again FirstDay = refl
 rule_again LastDay = refl
+rule_again Unlisted = refl
 
 abbrev pub alike_rules : Rule → Rule → Bool
 alike_rules a b = same (rule_numbers a) (rule_numbers b)

@@ -1,6 +1,6 @@
 -- What each rule asks of a field, and the first field that breaks its rule (document 01, 'Values').
 -- Assumes nothing.
-use Rattle.std.specs.Prelude.{Option, Some, None, ℕ, ◌-◌, List, [], ◌∷◌, Bool, cond, ◌&&◌, ◌||◌, eqb, leb}
+use Rattle.std.specs.Prelude.{false, Option, Some, None, ℕ, ◌-◌, List, [], ◌∷◌, Bool, cond, ◌&&◌, ◌||◌, eqb, leb}
 use Rattle.common.specs.Lists.{every, byte_at}
 use Rattle.common.specs.Digits.{number_of, value_of, is_within}
 use Rattle.layout.specs.Bytes.{is_text, is_blank, byte_blank, byte_plus, byte_minus, byte_0, byte_N, byte_Y}
@@ -11,7 +11,7 @@ use Rattle.layout.specs.Fields.{bytes_in, bytes_of, byte_of, is_first, day_row}
 use Rattle.layout.specs.declared.Table.{Table}
 use Rattle.layout.specs.declared.rows.Row.{Row}
 use Rattle.layout.specs.declared.rules.Rule.{Rule}
-use Rattle.layout.specs.declared.rules.Rule.TheVariants.{Text, Transferor, Railway, Number, NumberOrBlank, Flag, FlagOrBlank, MostPersons, Rounding, Factor, FirstDay, LastDay}
+use Rattle.layout.specs.declared.rules.Rule.TheVariants.{Text, Transferor, Railway, Number, NumberOrBlank, Flag, FlagOrBlank, MostPersons, Rounding, Factor, FirstDay, LastDay, Unlisted}
 
 abbrev pub is_flag : ℕ → Bool
 is_flag b = eqb b byte_Y || eqb b byte_N
@@ -58,6 +58,7 @@ ruled fewest mode first byte s Rounding = is_rounding byte
 ruled fewest mode first byte s Factor = factor_rule mode s
 ruled fewest mode first byte s FirstDay = first_day_rule s
 ruled fewest mode first byte s LastDay = last_day_rule first s
+ruled fewest mode first byte s Unlisted = false
 
 -- and so the rule of a row of a record
 unfoldable pub kept_beside : List ℕ → ℕ → List ℕ → List ℕ → Row → Bool

@@ -164,5 +164,6 @@ fn obeys(row: &Row, body: &[u8]) -> bool
         Rule::Factor => rules::factor(common::byte_at(body, start.saturating_sub(1)), s),
         Rule::FirstDay => rules::first_day(s),
         Rule::LastDay => rules::last_day(fields::field(body, start.saturating_sub(10), 8), s),
+        Rule::Unlisted => false,
     }
 }

@@ -19,6 +19,8 @@ pub enum Rule {
     Factor,
     FirstDay,
     LastDay,
+    // A rule that the layout does not have: no field keeps it.
+    Unlisted,
 }
 
 fn text_byte(b: u8) -> bool

@@ -28,6 +28,7 @@ pub fn say_rule(
         Rule::Factor => say_factor_rule(rt, of_table, field, body)?,
         Rule::FirstDay => say_day_rule(rt)?,
         Rule::LastDay => say_last_day_rule(rt, of_table, field, body)?,
+        Rule::Unlisted => rt.print("as the layout says")?,
     }
     rt.print(".\n")
 }
