@@ -255,16 +255,19 @@ module _ (s : List ℕ) where
   means_fault n p d (too_short k m) =
       (RecordShort, refl, at_end k (refuse RecordShort (length R) 0) (rw (too_short_is rest m, and-false (ltb 0 (length rest)))))
   means_fault n p d (breaks_a_field i f k l b) =
-      let e = broken_is (record_at R i) f b in
-      (FieldBroken, refl, in_first k.size (refuse FieldBroken i f)
-      (fault_append (each_from 0 field_checks R) (end_checks (length R) rest)
-      ∙ rw (fault_each field_checks no_rec 0 R (refuse FieldBroken i f)
-      (record {
-        at = i;
-        inside = l;
-        fails = rw (zero-add, e);
-        earlier_clean = λ j m. kept_clean (record_at R j) (0 + j) (k.earlier j m);
-      }))))
+      let e = broken_is (record_at R i) f b in (
+        FieldBroken,
+        refl,
+        in_first k.size (refuse FieldBroken i f)
+            (fault_append (each_from 0 field_checks R) (end_checks (length R) rest)
+            ∙ rw (fault_each field_checks no_rec 0 R (refuse FieldBroken i f)
+            (record {
+              at = i;
+              inside = l;
+              fails = rw (zero-add, e);
+              earlier_clean = λ j m. kept_clean (record_at R j) (0 + j) (k.earlier j m);
+            }))),
+      )
   means_fault n p d (other_transferor_fault i k t) = (OtherTransferor, refl, in_second i k (refuse OtherTransferor i 0) (rw (another R i t)))
   means_fault n p d (repeats_a_key i j k t l c m) =
       (KeyRepeated, refl, in_second i k (refuse KeyRepeated i j) (rw (transferor_same R (record_at R i) t, clash_first R i j l c m, lt-ltb j i l)))

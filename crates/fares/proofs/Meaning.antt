@@ -232,19 +232,18 @@ module _ (s : List ℕ) (q : Question) where
       let twice = refuted (cards_differ (card_slots q)) (λ e. c (differ_means q e)) in
       (CardTwice, refl, fault_append (checks s) (price_checks R q) ∙ rw (good_clean g, means_limits q l, twice))
   found_by n p d (at_leg g l c k m h {d = f} t) =
-      let z = means_turned s R g q (leg_at q k) k n f t in
-      (
+      let z = means_turned s R g q (leg_at q k) k n f t in (
         z.0,
         z.1,
         fault_append (checks s) (price_checks R q)
-        ∙ rw (good_clean g, means_limits q l, means_differ q c)
-        (fault_each (leg_checks R q) no_leg 0 (legs_of q) (refuse z.0 k f)
-        (record {
-          at = k;
-          inside = omega (arith, as_many R q);
-          fails = rw (leg_is R q k m, zero-add) z.2;
-          earlier_clean = legs_clean g c k (omega arith) h;
-        })),
+            ∙ rw (good_clean g, means_limits q l, means_differ q c)
+            (fault_each (leg_checks R q) no_leg 0 (legs_of q) (refuse z.0 k f)
+            (record {
+              at = k;
+              inside = omega (arith, as_many R q);
+              fails = rw (leg_is R q k m, zero-add) z.2;
+              earlier_clean = legs_clean g c k (omega arith) h;
+            })),
       )
 
 pub means_fare : (s : List ℕ) (R : List Rec) (q : Question) (fare : ℕ) (parts : List ℕ) → IsFare s R q fare parts
