@@ -14,8 +14,8 @@ use borrow.Author.Tests.{lt-ltb, le-ltb, ltb-true, ltb-false, not-false}
 use Rattle.common.specs.declared.reasons.Reason.TheVariants.{BundleTooLong, MarkUnknown, RecordShort, FieldBroken, OtherTransferor, KeyRepeated, LinkMissing}
 use Rattle.common.specs.Least.{least}
 use Rattle.common.specs.Lists.{every, same}
-use Rattle.common.specs.Reasons.{number_of_reason, numbers_told}
-use Rattle.common.specs.Checks.{refuse, clean, fault, first_fault, each_from, IsFault}
+use Rattle.common.specs.Reasons.{number_of_reason}
+use Rattle.common.specs.Checks.{refuse, clean, fault, first_fault, each_from, IsFault, IsRefused}
 use Rattle.common.specs.declared.Refusal.{Refusal}
 use Rattle.common.proofs.Tests.{never, both_true, refuted}
 use Rattle.common.proofs.Least.{passes, before, hit, none}
@@ -249,14 +249,15 @@ module _ (s : List ℕ) where
 
   pub means_fault : (n p d : ℕ) → Fault s R rest n p d → IsFault (first_fault (checks s)) n p d
   unfolding checks first_pass first_fault
-  means_fault n p d (too_long l) = (BundleTooLong, refl, rw (lt-ltb limit (length s) l))
+  means_fault n p d (too_long l) = (BundleTooLong, refl, refl, rw (lt-ltb limit (length s) l))
   means_fault n p d (unknown_mark k l m) =
-      (MarkUnknown, refl, at_end k (refuse MarkUnknown (length R) 0) (rw (lt-ltb 0 (length rest) l, no_mark_is rest m)))
+      (MarkUnknown, refl, refl, at_end k (refuse MarkUnknown (length R) 0) (rw (lt-ltb 0 (length rest) l, no_mark_is rest m)))
   means_fault n p d (too_short k m) =
-      (RecordShort, refl, at_end k (refuse RecordShort (length R) 0) (rw (too_short_is rest m, and-false (ltb 0 (length rest)))))
+      (RecordShort, refl, refl, at_end k (refuse RecordShort (length R) 0) (rw (too_short_is rest m, and-false (ltb 0 (length rest)))))
   means_fault n p d (breaks_a_field i f k l b) =
       let e = broken_is (record_at R i) f b in (
         FieldBroken,
+        refl,
         refl,
         in_first k.size (refuse FieldBroken i f)
             (fault_append (each_from 0 field_checks R) (end_checks (length R) rest)
@@ -268,21 +269,21 @@ module _ (s : List ℕ) where
               earlier_clean = λ j m. kept_clean (record_at R j) (0 + j) (k.earlier j m);
             }))),
       )
-  means_fault n p d (other_transferor_fault i k t) = (OtherTransferor, refl, in_second i k (refuse OtherTransferor i 0) (rw (another R i t)))
+  means_fault n p d (other_transferor_fault i k t) = (OtherTransferor, refl, refl, in_second i k (refuse OtherTransferor i 0) (rw (another R i t)))
   means_fault n p d (repeats_a_key i j k t l c m) =
-      (KeyRepeated, refl, in_second i k (refuse KeyRepeated i j) (rw (transferor_same R (record_at R i) t, clash_first R i j l c m, lt-ltb j i l)))
+      (KeyRepeated, refl, refl, in_second i k (refuse KeyRepeated i j) (rw (transferor_same R (record_at R i) t, clash_first R i j l c m, lt-ltb j i l)))
   means_fault n p d (lacks_a_link i f k t c m) =
       let e = missing_link_lem R (record_at R i) f m in
-      (LinkMissing, refl, in_second i k (refuse LinkMissing i f) (rw (transferor_same R (record_at R i) t, clash_none R (record_at R i) i c, e.0, e.1)))
+      (LinkMissing, refl, refl, in_second i k (refuse LinkMissing i f) (rw (transferor_same R (record_at R i) t, clash_none R (record_at R i) i c, e.0, e.1)))
 
 -- A BUNDLE IS REFUSED with a number, a place and a detail only if it has that fault, and if it has.
 pub refused_fault : (s : List ℕ) (why : Refusal) → verdict_of s ≡ Err why → Fault s (records_of s) (rest_of s) (number_of_reason why.reason) why.place why.detail
 unfolding verdict_of
 refused_fault s why e = fault_means s why (is_fault (first_fault (checks s)) (length (records_of s)) why e)
 
-pub fault_refused : (s : List ℕ) (R : List Rec) (rest : List ℕ) → Cut s R rest → (n p d : ℕ) → Fault s R rest n p d → numbers_told (verdict_of s) ≡ n ∷ p ∷ d ∷ []
+pub fault_refused : (s : List ℕ) (R : List Rec) (rest : List ℕ) → Cut s R rest → (n p d : ℕ) → Fault s R rest n p d → IsRefused (verdict_of s) n p d
 unfolding verdict_of
 fault_refused s R rest c n p d f =
     let e = cut_only s R rest c in
     let h = means_fault s n p d (rw (e.0, e.1) f) in
-    rw h.2 (ap (λ k. k ∷ p ∷ d ∷ []) h.1)
+    (h.0, h.1, h.2, rw h.3)

@@ -2,7 +2,7 @@
 -- Assumes nothing.
 use Rattle.std.specs.Prelude.{◌≡◌, ℕ, ◌+◌, Bool, true, false, cond, List, [], ◌∷◌, ◌++◌, nat_eq, Result, Ok, Err}
 use Rattle.common.specs.Lists.{every, any}
-use Rattle.common.specs.Reasons.{number_of_reason}
+use Rattle.common.specs.Reasons.{number_of_reason, is_listed}
 use Rattle.common.specs.declared.reasons.Reason.{Reason}
 use Rattle.common.specs.declared.Refusal.{Refusal}
 
@@ -53,9 +53,13 @@ pub record First (cs : List Check) (r : Refusal) : Type 0 where
 abbrev pub FirstIs : List Check → ℕ → ℕ → ℕ → Type 0
 FirstIs cs n p d = (k : Reason) × (number_of_reason k ≡ n) × First cs (refuse k p d)
 
--- What was found is a fault of this number, place and detail.
+-- What was found is a fault of this number, place and detail, by a reason of the table.
 abbrev pub IsFault : Finding → ℕ → ℕ → ℕ → Type 0
-IsFault f n p d = (k : Reason) × (number_of_reason k ≡ n) × (f ≡ fault (refuse k p d))
+IsFault f n p d = (k : Reason) × (number_of_reason k ≡ n) × (is_listed k ≡ true) × (f ≡ fault (refuse k p d))
+
+-- So an answer is a refusal of this number, place and detail.
+abbrev pub IsRefused : {A : Type 0} → Result A Refusal → ℕ → ℕ → ℕ → Type 0
+IsRefused r n p d = (k : Reason) × (number_of_reason k ≡ n) × (is_listed k ≡ true) × (r ≡ Err (refuse k p d))
 
 -- Each check of the list tells one of these numbers.
 abbrev pub is_among : List ℕ → Check → Bool

@@ -1,7 +1,7 @@
--- THE NUMBERS that turn work away (document 01, 'Numbers that turn work away', and document 02, R-1 and R-13): each reason has its own. A number that no check tells
--- may be said too.
+-- THE NUMBERS that turn work away (document 01, 'Numbers that turn work away', and document 02, R-1 and R-13): each check that can
+-- fail has a reason, and each of these reasons a number of its own.
 -- Assumes nothing.
-use Rattle.std.specs.Prelude.{ℕ, List, [], ◌∷◌, Result, Ok, Err}
+use Rattle.std.specs.Prelude.{ℕ, Bool, true, false, List, [], ◌∷◌, Result, Ok, Err}
 use Rattle.common.specs.declared.Refusal.{Refusal}
 use Rattle.common.specs.declared.reasons.Reason.{Reason}
 use Rattle.common.specs.declared.reasons.Reason.TheVariants.{BundleTooLong, MarkUnknown, RecordShort, FieldBroken, OtherTransferor, KeyRepeated, LinkMissing, OutsideLimits, NoConditions, DayOutside, PersonsOutside, ConditionUnread, CardTwice, BookUnsound, NumberOutside, NumberTaken, BookFull, SaleUnknown, Unlisted}
@@ -27,6 +27,11 @@ number_of_reason NumberTaken = 23
 number_of_reason BookFull = 24
 number_of_reason SaleUnknown = 25
 number_of_reason (Unlisted number) = number
+
+-- a reason of this table, which a check tells; any number may be said by one that is not
+abbrev pub is_listed : Reason → Bool
+is_listed (Unlisted number) = false
+is_listed other = true
 
 -- a refusal in numbers: that of its reason, its place and its detail; nothing where work is answered
 abbrev pub numbers_told : {A : Type 0} → Result A Refusal → List ℕ

@@ -23,7 +23,7 @@ pub enum Reason {
     NumberTaken,
     BookFull,
     SaleUnknown,
-    // A number that no check of this engine tells: whoever has a number of another version can still make a refusal of it.
+    // Any number, of another version for one: no check of this engine tells it so.
     Unlisted(u8),
 }
 
@@ -56,7 +56,7 @@ impl From<Reason> for u8 {
     }
 }
 
-// A number that no reason has.
+// A number that none of the reasons above has, but for `Unlisted`.
 #[derive(Clone, Copy)]
 pub struct NoReason(pub u8);
 

@@ -206,13 +206,13 @@ module _ (s : List ℕ) (R : List Rec) (g : Good s R) (q : Question) (leg : Leg)
     -- AND BACK
     pub means_turned : (n d : ℕ) → TurnedAway R q leg n d → IsFault (first_fault (leg_checks R q k leg)) n k d
     unfolding first_fault
-    means_turned n d (no_conditions h) = (NoConditions, refl, rw (is_conditions Nothing (nothing h)))
-    means_turned n d (none_valid i f h) = (DayOutside, refl, rw (is_conditions NotThatDay (not_that_day i f h)))
+    means_turned n d (no_conditions h) = (NoConditions, refl, refl, rw (is_conditions Nothing (nothing h)))
+    means_turned n d (none_valid i f h) = (DayOutside, refl, refl, rw (is_conditions NotThatDay (not_that_day i f h)))
     means_turned n d (persons_outside i u p) =
-        (PersonsOutside, refl, at_record i (conditions_at i u) ∙ rw (refuted _ (λ b. p (fit_means (record_at R i).body q.persons b))))
+        (PersonsOutside, refl, refl, at_record i (conditions_at i u) ∙ rw (refuted _ (λ b. p (fit_means (record_at R i).body q.persons b))))
     means_turned n d (condition-unread i u p f z) =
         let w = at_record i (conditions_at i u) ∙ rw (means_fit (record_at R i).body q.persons p, one_unread_is (record_at R i).body f z) in
-        (ConditionUnread, refl, w)
+        (ConditionUnread, refl, refl, w)
 
     pub means_priced : CardsDiffer q → (part : ℕ) → LegFare R q leg part → (first_fault (leg_checks R q k leg) ≡ clean) × (part ≡ part_of R q leg)
     unfolding first_fault

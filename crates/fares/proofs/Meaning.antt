@@ -12,10 +12,10 @@ use lib.ListN.{length, get_or, replicate, length-map, length-append, length-repl
 use lib.Seq.{ext_get_or}
 use borrow.Author.Tests.{not-true, not-false}
 use Rattle.std.specs.Prelude.{Ok, Err}
-use Rattle.common.specs.Reasons.{number_of_reason, numbers_told}
+use Rattle.common.specs.Reasons.{number_of_reason}
 use Rattle.common.specs.declared.reasons.Reason.TheVariants.{OutsideLimits, CardTwice}
 use Rattle.common.specs.Lists.{sum}
-use Rattle.common.specs.Checks.{refuse, clean, fault, Check, check, first_fault, each_from, IsFault}
+use Rattle.common.specs.Checks.{refuse, clean, fault, Check, check, first_fault, each_from, IsFault, IsRefused}
 use Rattle.common.specs.declared.Refusal.{Refusal}
 use Rattle.common.proofs.Tests.{never, refuted, side}
 use Rattle.common.proofs.Lists.{first_length, first_at}
@@ -192,9 +192,9 @@ module _ (s : List ℕ) (q : Question) where
   unfolding fare_of
   clean_priced c = rw c
 
-  fault_refused : (n p d : ℕ) → IsFault (first_fault (fare_checks s q)) n p d → numbers_told (fare_of s q) ≡ n ∷ p ∷ d ∷ []
+  fault_refused : (n p d : ℕ) → IsFault (first_fault (fare_checks s q)) n p d → IsRefused (fare_of s q) n p d
   unfolding fare_of
-  fault_refused n p d f = rw f.2 (ap (λ k. k ∷ p ∷ d ∷ []) f.1)
+  fault_refused n p d f = (f.0, f.1, f.2, rw f.3)
 
   legs_clean : Good s R → CardsDiffer q → (n : ℕ) → n ≤ q.count → ((k : ℕ) → k < n → (part : ℕ) × LegFare R q (leg_at q k) part)
       → (k : ℕ) → k < n → first_fault (leg_checks R q (0 + k) (get_or (legs_of q) k no_leg)) ≡ clean
@@ -224,24 +224,25 @@ module _ (s : List ℕ) (q : Question) where
   unfolding fare_checks price_checks first_fault
   found_by n p d (faulty f) =
       let z = means_fault s n p d f in
-      (z.0, z.1, fault_append (checks s) (price_checks R q) ∙ rw z.2)
+      (z.0, z.1, z.2, fault_append (checks s) (price_checks R q) ∙ rw z.3)
   found_by n p d (outside_limits g l) =
       let z = fault_append (checks s) (price_checks R q) ∙ rw (good_clean g, refuted (in_limits q) (λ e. l (limits_mean q e))) in
-      (OutsideLimits, refl, z)
+      (OutsideLimits, refl, refl, z)
   found_by n p d (card_twice g l c) =
       let twice = refuted (cards_differ (card_slots q)) (λ e. c (differ_means q e)) in
-      (CardTwice, refl, fault_append (checks s) (price_checks R q) ∙ rw (good_clean g, means_limits q l, twice))
+      (CardTwice, refl, refl, fault_append (checks s) (price_checks R q) ∙ rw (good_clean g, means_limits q l, twice))
   found_by n p d (at_leg g l c k m h {d = f} t) =
       let z = means_turned s R g q (leg_at q k) k n f t in (
         z.0,
         z.1,
+        z.2,
         fault_append (checks s) (price_checks R q)
             ∙ rw (good_clean g, means_limits q l, means_differ q c)
             (fault_each (leg_checks R q) no_leg 0 (legs_of q) (refuse z.0 k f)
             (record {
               at = k;
               inside = omega (arith, as_many R q);
-              fails = rw (leg_is R q k m, zero-add) z.2;
+              fails = rw (leg_is R q k m, zero-add) z.3;
               earlier_clean = legs_clean g c k (omega arith) h;
             })),
       )
@@ -251,7 +252,7 @@ pub means_fare : (s : List ℕ) (R : List Rec) (q : Question) (fare : ℕ) (part
 means_fare s R q fare parts f = answered_by s q fare parts (rw (recut s R f.good) f)
 
 pub means_no_fare : (s : List ℕ) (R : List Rec) (rest : List ℕ) → Cut s R rest → (q : Question) (n p d : ℕ) → NoFare s R rest q n p d
-    → numbers_told (fare_of s q) ≡ n ∷ p ∷ d ∷ []
+    → IsRefused (fare_of s q) n p d
 means_no_fare s R rest c q n p d f = let e = cut_only s R rest c in fault_refused s q n p d (found_by s q n p d (rw (e.0, e.1) f))
 
 -- NO PART of a fare is above the bound, and no fare above eight times the bound

@@ -9,10 +9,11 @@ use lib.Dec.{eqb, leb}
 use lib.ListN.{length, get_or, replicate}
 use borrow.Author.Tests.{ltb-true, not-false}
 use Rattle.std.specs.Prelude.{Result, Ok, Err}
-use Rattle.common.specs.Reasons.{number_of_reason, numbers_told}
+use Rattle.common.specs.Reasons.{number_of_reason}
+use Rattle.common.specs.declared.reasons.Reason.{Reason}
 use Rattle.common.specs.declared.reasons.Reason.TheVariants.{BookUnsound, BookFull}
 use Rattle.common.specs.Lists.{every, any, sum}
-use Rattle.common.specs.Checks.{refuse, Finding, clean, fault, Check, check, unless, first_fault, each_from, AllPass, IsFault, TellsOf}
+use Rattle.common.specs.Checks.{refuse, Finding, clean, fault, Check, check, unless, first_fault, each_from, AllPass, IsRefused, TellsOf}
 use Rattle.common.specs.declared.Refusal.{Refusal}
 use Rattle.common.proofs.Tests.{never}
 use Rattle.common.proofs.Lists.{every_among, every_at}
@@ -47,7 +48,7 @@ module _ {A : Type 0} (n : ℕ) (values : A → List ℕ) (a : A) where
   told_clean (fault why) us e = (cc, cc)
 
   told_fault : (f : Finding) (number place detail : ℕ) (us : List ℕ) → tells_values n values (unless f a) ≡ refuses number place detail us
-      → IsFault f number place detail × (us ≡ replicate n 0)
+      → ((k : Reason) × (number_of_reason k ≡ number) × (f ≡ fault (refuse k place detail))) × (us ≡ replicate n 0)
   unfolding tells_values
   told_fault clean number place detail us e = absurd (cc e)
   told_fault (fault why) number place detail us e =
@@ -224,11 +225,10 @@ module _ {A : Type 0} (n : ℕ) (values : A → List ℕ) where
       subst (λ x. Holds x place detail) k (subst (λ x. Holds (number_of_reason why.reason) x detail) p
       (subst (λ x. Holds (number_of_reason why.reason) why.place x) d (holds why refl)))
 
-  pub told_numbers : (r : Result A Refusal) {number place detail : ℕ} → numbers_told r ≡ number ∷ place ∷ detail ∷ []
+  pub told_refused : (r : Result A Refusal) {number place detail : ℕ} → IsRefused r number place detail
       → tells_values n values r ≡ refuses number place detail (replicate n 0)
   unfolding tells_values
-  told_numbers (Ok a) e = absurd (cc e)
-  told_numbers (Err why) e = cc
+  told_refused r {number} {place} {detail} h = rw h.3 (ap (λ k. refuses k place detail (replicate n 0)) h.1)
 
 pub told_accepted : (j : Result ℕ Refusal) (n : ℕ) → verdict_tells j ≡ answers (n ∷ []) → j ≡ Ok n
 told_accepted j n e =

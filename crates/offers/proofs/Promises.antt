@@ -102,7 +102,7 @@ use Rattle.sales.proofs.OneCard.{same_sale as sold-as-it-was, same_sale_words, s
 use Rattle.sales.proofs.OneCardHistory.{same_after, empty_before}
 use Rattle.sales.proofs.AnswersByCase.{not_booked_stays, not_cancelled_stays, refused_stays, refused_cancel_stays}
 use Rattle.offers.specs.Answers.{Told, answers, refuses, tells_values, one_value, verdict_tells, quote_values, fare_tells, booked, already_booked, cancelled, already_cancelled, outcome_values, receipt_tells, sum_tells}
-use Rattle.offers.proofs.Orders.{told_err, told_numbers, told_accepted, told_priced, told_booked, first_parts, booked_told, cancelled_told}
+use Rattle.offers.proofs.Orders.{told_err, told_refused, told_accepted, told_priced, told_booked, first_parts, booked_told, cancelled_told}
 
 -- DEMAND 2, a bundle. Its records are the whole ones that stand one after the other from its start, and there is one way to cut it so.
 pub the_records_of_a_bundle : (bundle : List ℕ) → Cut bundle (records_of bundle) (rest_of bundle)
@@ -127,7 +127,7 @@ a_refusal_names_the_first_fault bundle number place detail us e =
 
 pub the_first_fault_is_refused : (bundle : List ℕ) (R : List Rec) (rest : List ℕ) → Cut bundle R rest → (number place detail : ℕ)
     → Fault bundle R rest number place detail → verdict_tells (verdict_of bundle) ≡ refuses number place detail (0 ∷ [])
-the_first_fault_is_refused bundle R rest c n p d f = told_numbers 1 one_value (verdict_of bundle) (fault_refused bundle R rest c n p d f)
+the_first_fault_is_refused bundle R rest c n p d f = told_refused 1 one_value (verdict_of bundle) (fault_refused bundle R rest c n p d f)
 
 -- A FIELD keeps its rule exactly if it says what it may, and A RECORD keeps its rules exactly if each of its fields does. What is read off it is what its bytes say.
 pub a_field_keeps_its_rule_by_its_value : (p : Field) → Memᴰ p values → (body : List ℕ) → length body ≡ length_of p.table
@@ -275,7 +275,7 @@ a_refused_fare_says_why bundle q number place detail us e =
 
 pub what_says_why_refuses_the_fare : (bundle : List ℕ) (R : List Rec) (rest : List ℕ) → Cut bundle R rest → (q : Question) (number place detail : ℕ)
     → NoFare bundle R rest q number place detail → fare_tells (fare_of bundle q) ≡ refuses number place detail (replicate 9 0)
-what_says_why_refuses_the_fare bundle R rest c q n p d f = told_numbers 9 quote_values (fare_of bundle q) (means_no_fare bundle R rest c q n p d f)
+what_says_why_refuses_the_fare bundle R rest c q n p d f = told_refused 9 quote_values (fare_of bundle q) (means_no_fare bundle R rest c q n p d f)
 
 -- An exact amount is rounded to one amount, as a record says; nothing to nothing, so that a discount of 100,000 leaves 0 in every mode.
 pub rounding_has_one_outcome : {mode n f r s : ℕ} → IsRounded mode n f r → IsRounded mode n f s → r ≡ s
