@@ -3,8 +3,8 @@
 use Rattle.std.proofs.Common.{◌≡◌, ℕ, zero, suc, ◌+◌, ◌<◌, ◌≤◌, Bool, true, false, cond, eqb, ◌⊎◌, List, [], ◌∷◌, ◌++◌, length, get_or, drop, sym, refl, ap, ◌∙◌, inl, inr, ⊎_elim, suc-le-suc, le_of_suc-le-suc, add-zero, add-one, arith, drop_of_length-le, drop-cons}
 use Rattle.std.specs.Prelude.{Result, Ok, Err}
 use Rattle.common.specs.Lists.{every, any}
-use Rattle.common.specs.Checks.{Finding, clean, fault, refuse, Check, check, unless, first_fault, each_from, AllPass, First, is_among, TellsOf}
-use Rattle.common.specs.Reasons.{number_of_reason}
+use Rattle.common.specs.Checks.{Finding, clean, fault, refuse, Check, check, unless, first_fault, each_from, AllPass, First, IsListed, is_among, TellsOf, is_listed_among, TellsListed}
+use Rattle.common.specs.Reasons.{number_of_reason, is_listed}
 use Rattle.common.specs.declared.reasons.Reason.{Reason}
 use Rattle.common.specs.declared.Refusal.{Refusal}
 use Rattle.common.proofs.Lists.{every_append}
@@ -197,20 +197,39 @@ module _ {A : Type 0} (f : ℕ → A → List Check) (d : A) where
           fault_append (f i x) (each_from (i + 1) f xs)
           ∙ rw (rw add-zero at (c 0 (omega arith))) (go (i + 1) xs k (le_of_suc-le-suc l) (rw (q k) e) (λ m h. rw (q m) (c (suc m) (suc-le-suc h))))
 
--- THE NUMBERS that a list of checks can tell: those of its parts, and no fault tells another.
+-- WHAT EACH CHECK of a list passes: each of its parts does, and no fault is that of a check that does not.
+module _ (p : Check → Bool) where
+  pub append_pass : (a b : List Check) → every p a ≡ true → every p b ≡ true → every p (a ++ b) ≡ true
+  append_pass a b e f = every_append p a b ∙ rw (e, f)
+
+  pub each_pass : {A : Type 0} (f : ℕ → A → List Check) → ((i : ℕ) (x : A) → every p (f i x) ≡ true) → (i : ℕ) (xs : List A) → every p (each_from i f xs) ≡ true
+  unfolding each_from every
+  each_pass f g i [] = refl
+  each_pass f g i (x ∷ xs) = append_pass (f i x) (each_from (i + 1) f xs) (g i x) (each_pass f g (i + 1) xs)
+
+  pub first_passes : (cs : List Check) → every p cs ≡ true → (r : Refusal) → First cs r → p (record { fails = true; tells = r }) ≡ true
+  unfolding every
+  first_passes cs e r f =
+      let c : Check = record { fails = true; tells = r } in
+      let m : every p (f.before ++ (c ∷ f.after)) ≡ true = rw (← f.split) e in
+      let b = both_true (every p f.before) (every p (c ∷ f.after)) (sym (every_append p f.before (c ∷ f.after)) ∙ m) in
+      (both_true (p c) (every p f.after) b.1).0
+
+-- So the numbers that a list of checks can tell,
 module _ (ns : List ℕ) where
   pub append_tells : (a b : List Check) → TellsOf ns a → TellsOf ns b → TellsOf ns (a ++ b)
-  append_tells a b e f = every_append (is_among ns) a b ∙ rw (e, f)
+  append_tells = append_pass (is_among ns)
 
   pub each_tells : {A : Type 0} (f : ℕ → A → List Check) → ((i : ℕ) (x : A) → TellsOf ns (f i x)) → (i : ℕ) (xs : List A) → TellsOf ns (each_from i f xs)
-  unfolding each_from every
-  each_tells f g i [] = refl
-  each_tells f g i (x ∷ xs) = append_tells (f i x) (each_from (i + 1) f xs) (g i x) (each_tells f g (i + 1) xs)
+  each_tells = each_pass (is_among ns)
 
   pub first_among : (cs : List Check) → TellsOf ns cs → (r : Refusal) → First cs r → any (eqb (number_of_reason r.reason)) ns ≡ true
-  unfolding every
-  first_among cs e r f =
-      let c : Check = record { fails = true; tells = r } in
-      let m : TellsOf ns (f.before ++ (c ∷ f.after)) = rw (← f.split) e in
-      let b = both_true (every (is_among ns) f.before) (every (is_among ns) (c ∷ f.after)) (sym (every_append (is_among ns) f.before (c ∷ f.after)) ∙ m) in
-      (both_true (is_among ns c) (every (is_among ns) f.after) b.1).0
+  first_among = first_passes (is_among ns)
+
+  -- and by which reasons: of a list that tells by the table's alone, a refusal has one of them.
+  pub first_listed : (cs : List Check) → TellsListed ns cs → (r : Refusal) → First cs r → (is_listed r.reason ≡ true) × (any (eqb (number_of_reason r.reason)) ns ≡ true)
+  first_listed cs e r f = both_true (is_listed r.reason) (any (eqb (number_of_reason r.reason)) ns) (first_passes (is_listed_among ns) cs e r f)
+
+  pub refused_listed : (cs : List Check) → TellsListed ns cs → {A : Type 0} (a : A) → IsListed (unless (first_fault cs) a)
+  refused_listed cs e a why q =
+      ⊎_elim (λ h. cc) (λ h. (first_listed cs e why (fault_means cs why (h.1 ∙ ap fault cc))).0) (by_finding (first_fault cs) a q)

@@ -197,6 +197,13 @@ module _ {A : Type 0} (p : A → Bool) where
   every_drop (x ∷ xs) zero e = e
   every_drop (x ∷ xs) (suc k) e = every_drop xs k (both_true (p x) (every p xs) e).1
 
+  pub every_take : (xs : List A) (k : ℕ) → every p xs ≡ true → every p (take k xs) ≡ true
+  unfolding every
+  every_take [] zero e = refl
+  every_take [] (suc k) e = refl
+  every_take (x ∷ xs) zero e = refl
+  every_take (x ∷ xs) (suc k) e = let d = both_true (p x) (every p xs) e in rw d.0 (every_take xs k d.1)
+
   pub every_by : (d : A) (xs : List A) → ((i : ℕ) → i < length xs → p (get_or xs i d) ≡ true) → every p xs ≡ true
   unfolding every
   every_by d [] f = refl

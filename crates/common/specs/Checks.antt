@@ -1,6 +1,6 @@
 -- An order of checks, and the first of them that fails.
 -- Assumes nothing.
-use Rattle.std.specs.Prelude.{◌≡◌, ℕ, ◌+◌, Bool, true, false, cond, List, [], ◌∷◌, ◌++◌, nat_eq, Result, Ok, Err}
+use Rattle.std.specs.Prelude.{◌≡◌, ℕ, ◌+◌, Bool, true, false, cond, ◌&&◌, List, [], ◌∷◌, ◌++◌, nat_eq, Result, Ok, Err}
 use Rattle.common.specs.Lists.{every, any}
 use Rattle.common.specs.Reasons.{number_of_reason, is_listed}
 use Rattle.common.specs.declared.reasons.Reason.{Reason}
@@ -61,9 +61,20 @@ IsFault f n p d = (k : Reason) × (number_of_reason k ≡ n) × (is_listed k ≡
 abbrev pub IsRefused : {A : Type 0} → Result A Refusal → ℕ → ℕ → ℕ → Type 0
 IsRefused r n p d = (k : Reason) × (number_of_reason k ≡ n) × (is_listed k ≡ true) × (r ≡ Err (refuse k p d))
 
--- Each check of the list tells one of these numbers.
+-- An answer, where it is a refusal, is one by a reason of the table.
+abbrev pub IsListed : {A : Type 0} → Result A Refusal → Type 0
+IsListed r = (why : Refusal) → r ≡ Err why → is_listed why.reason ≡ true
+
+-- Each check of the list tells one of these numbers,
 abbrev pub is_among : List ℕ → Check → Bool
 is_among ns c = any (nat_eq (number_of_reason c.tells.reason)) ns
 
 abbrev pub TellsOf : List ℕ → List Check → Type 0
 TellsOf ns cs = every (is_among ns) cs ≡ true
+
+-- and does so by a reason of the table.
+abbrev pub is_listed_among : List ℕ → Check → Bool
+is_listed_among ns c = is_listed c.tells.reason && is_among ns c
+
+abbrev pub TellsListed : List ℕ → List Check → Type 0
+TellsListed ns cs = every (is_listed_among ns) cs ≡ true

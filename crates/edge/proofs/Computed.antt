@@ -1,8 +1,14 @@
 -- WHAT C GETS is computed.
 -- Assumes nothing.
-use mathlib.Core.Path.{refl}
+use Prim.Native.Nat.{ℕ}
+use mathlib.Core.Path.{◌≡◌, refl}
+use mathlib.Core.List.{List}
+use Rattle.std.specs.Prelude.{Err}
+use Rattle.common.specs.declared.reasons.Reason.TheVariants.{LinkMissing}
+use Rattle.common.specs.Checks.{refuse}
+use Rattle.offers.specs.Answers.{tells_values}
 use Rattle.edge.specs.Replies.{judgement_reply, quote_reply, receipt_reply, sum_reply, tally_reply, booking_reply}
-use Rattle.edge.specs.Figures.{Replies}
+use Rattle.edge.specs.Figures.{refused, Replies}
 
 pub what_c_gets : Replies
 unfolding judgement_reply quote_reply receipt_reply sum_reply tally_reply booking_reply
@@ -22,3 +28,8 @@ what_c_gets =
       no_booking_told = refl;
       booking = refl;
     }
+
+-- and the refusal in these figures is told of a missing link
+pub a_missing_link_is_told : {A : Type 0} (n : ℕ) (values : A → List ℕ) → tells_values n values (Err (refuse LinkMissing 5 3)) ≡ refused n
+unfolding tells_values
+a_missing_link_is_told n values = refl

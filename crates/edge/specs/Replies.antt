@@ -15,7 +15,7 @@ use Rattle.edge.specs.declared.ReceiptReply.{ReceiptReply}
 use Rattle.edge.specs.declared.SumReply.{SumReply}
 use Rattle.edge.specs.declared.TallyReply.{TallyReply}
 
--- number, place and detail of the refusal that is told; 0 stands for none, as numbers start at 1
+-- number, place and detail of the refusal that is told; 0 stands for none, as those of the table start at 1
 abbrev pub number_in : Told → ℕ
 number_in (answers vs) = 0
 number_in (refuses number place detail vs) = number

@@ -5,6 +5,7 @@ pub mod RuleNumbers
 pub mod Tables
 pub mod Flags
 pub mod BrokenField
+pub mod ListedRules
 pub mod RowLoops
 pub mod Companies
 pub mod Meanings

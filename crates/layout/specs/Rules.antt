@@ -1,6 +1,6 @@
 -- What each rule asks of a field, and the first field that breaks its rule (document 01, 'Values').
 -- Assumes nothing.
-use Rattle.std.specs.Prelude.{false, Option, Some, None, ℕ, ◌-◌, List, [], ◌∷◌, Bool, cond, ◌&&◌, ◌||◌, eqb, leb}
+use Rattle.std.specs.Prelude.{◌≡◌, true, false, Option, Some, None, ℕ, ◌-◌, List, [], ◌∷◌, Bool, cond, ◌&&◌, ◌||◌, eqb, leb}
 use Rattle.common.specs.Lists.{every, byte_at}
 use Rattle.common.specs.Digits.{number_of, value_of, is_within}
 use Rattle.layout.specs.Bytes.{is_text, is_blank, byte_blank, byte_plus, byte_minus, byte_0, byte_N, byte_Y}
@@ -81,3 +81,11 @@ broken_field t body = first_broken (keeps_row t body) (table_at t).rows
 -- every field keeps its rule
 unfoldable pub keeps_rules : Table → List ℕ → Bool
 keeps_rules t body = every (keeps_row t body) (table_at t).rows
+
+-- A rule that the layout knows, and rows of such rules.
+abbrev pub is_listed : Rule → Bool
+is_listed Unlisted = false
+is_listed other = true
+
+abbrev pub AllListed : List Row → Type 0
+AllListed rows = every (λ row. is_listed row.rule) rows ≡ true

@@ -13,11 +13,11 @@ use Rattle.common.specs.Reasons.{number_of_reason}
 use Rattle.common.specs.declared.reasons.Reason.{Reason}
 use Rattle.common.specs.declared.reasons.Reason.TheVariants.{BookUnsound, BookFull}
 use Rattle.common.specs.Lists.{every, any, sum}
-use Rattle.common.specs.Checks.{refuse, Finding, clean, fault, Check, check, unless, first_fault, each_from, AllPass, IsRefused, TellsOf}
+use Rattle.common.specs.Checks.{refuse, Finding, clean, fault, Check, check, unless, first_fault, each_from, AllPass, IsRefused, is_listed_among, TellsListed}
 use Rattle.common.specs.declared.Refusal.{Refusal}
 use Rattle.common.proofs.Tests.{never}
 use Rattle.common.proofs.Lists.{every_among, every_at}
-use Rattle.common.proofs.Checks.{one_clean, clean_means, means_clean, fault_means, means_fault, append_tells, each_tells, first_among}
+use Rattle.common.proofs.Checks.{one_clean, clean_means, means_clean, fault_means, means_fault, append_pass, each_pass, first_listed}
 use Rattle.bundle.specs.Records.{rest_of, records_of}
 use Rattle.bundle.specs.Verdict.{field_checks, end_checks, first_pass, record_checks, second_pass, checks, verdict_of}
 use Rattle.fares.specs.Question.{legs_of}
@@ -148,62 +148,62 @@ module _ (w : List ℕ) where
         (values_cancelled (eqb (present w t s).status 0) (present w t s).parts)
         (follows 10 receipt_values (cancel_receipt (present w t s)) (cancel_checks w t s))
 
--- The numbers of each call.
+-- The numbers of each call, each by a reason of the table.
 module _ (s : List ℕ) where
-  verdict_among : (ns : List ℕ) → TellsOf (verdict_numbers ++ ns) (checks s)
+  verdict_among : (ns : List ℕ) → TellsListed (verdict_numbers ++ ns) (checks s)
   unfolding checks first_pass second_pass every any
   verdict_among ns =
       let all = verdict_numbers ++ ns in
-      append_tells all (first_pass s) (second_pass (records_of s))
-      (append_tells all (each_from 0 field_checks (records_of s)) (end_checks (length (records_of s)) (rest_of s)) (each_tells all field_checks (λ i r. refl) 0 (records_of s)) refl)
-      (each_tells all (record_checks (records_of s)) (λ i r. refl) 0 (records_of s))
+      append_pass (is_listed_among all) (first_pass s) (second_pass (records_of s))
+      (append_pass (is_listed_among all) (each_from 0 field_checks (records_of s)) (end_checks (length (records_of s)) (rest_of s)) (each_pass (is_listed_among all) field_checks (λ i r. refl) 0 (records_of s)) refl)
+      (each_pass (is_listed_among all) (record_checks (records_of s)) (λ i r. refl) 0 (records_of s))
 
-  verdict_numbers_lem : TellsOf verdict_numbers (checks s)
+  pub verdict_numbers_lem : TellsListed verdict_numbers (checks s)
   verdict_numbers_lem = verdict_among []
 
-  fare_among : (q : Question) (ns : List ℕ) → TellsOf (fare_numbers ++ ns) (fare_checks s q)
+  fare_among : (q : Question) (ns : List ℕ) → TellsListed (fare_numbers ++ ns) (fare_checks s q)
   unfolding fare_checks price_checks every any
   fare_among q ns =
       let all = fare_numbers ++ ns in
-      append_tells all (checks s) (price_checks (records_of s) q) (verdict_among (11 ∷ 17 ∷ 12 ∷ 13 ∷ 14 ∷ 15 ∷ ns))
-      (each_tells all (leg_checks (records_of s) q) (λ i leg. refl) 0 (legs_of q))
+      append_pass (is_listed_among all) (checks s) (price_checks (records_of s) q) (verdict_among (11 ∷ 17 ∷ 12 ∷ 13 ∷ 14 ∷ 15 ∷ ns))
+      (each_pass (is_listed_among all) (leg_checks (records_of s) q) (λ i leg. refl) 0 (legs_of q))
 
-  fare_numbers_lem : (q : Question) → TellsOf fare_numbers (fare_checks s q)
+  pub fare_numbers_lem : (q : Question) → TellsListed fare_numbers (fare_checks s q)
   fare_numbers_lem q = fare_among q []
 
-  sale_numbers_lem : (w : List ℕ) (t n : ℕ) (q : Question) → TellsOf sale_numbers (sale_checks w t n s q)
+  pub sale_numbers_lem : (w : List ℕ) (t n : ℕ) (q : Question) → TellsListed sale_numbers (sale_checks w t n s q)
   unfolding sale_checks every any
   sale_numbers_lem w t n q = new_or_not (is_present w t n)
     where
-      new_or_not : (b : Bool) → TellsOf sale_numbers (cond b [] (check (leb capacity (length (entries w))) BookFull 0 0 ∷ fare_checks s q))
+      new_or_not : (b : Bool) → TellsListed sale_numbers (cond b [] (check (leb capacity (length (entries w))) BookFull 0 0 ∷ fare_checks s q))
       new_or_not true = refl
       new_or_not false = fare_among q (21 ∷ 22 ∷ 23 ∷ 24 ∷ [])
 
-cancel_numbers_lem : (w : List ℕ) (t s : ℕ) → TellsOf cancel_numbers (cancel_checks w t s)
+pub cancel_numbers_lem : (w : List ℕ) (t s : ℕ) → TellsListed cancel_numbers (cancel_checks w t s)
 unfolding cancel_checks every any
 cancel_numbers_lem w t s = refl
 
-balance_numbers_lem : (w : List ℕ) (railway : ℕ) → TellsOf balance_numbers (balance_checks w railway)
+pub balance_numbers_lem : (w : List ℕ) (railway : ℕ) → TellsListed balance_numbers (balance_checks w railway)
 unfolding every any
 balance_numbers_lem w railway = refl
 
-total_numbers_lem : (w : List ℕ) → TellsOf total_numbers (total_checks w)
+pub total_numbers_lem : (w : List ℕ) → TellsListed total_numbers (total_checks w)
 unfolding every any
 total_numbers_lem w = refl
 
-count_numbers_lem : (w : List ℕ) → TellsOf count_numbers (count_checks w)
+pub count_numbers_lem : (w : List ℕ) → TellsListed count_numbers (count_checks w)
 unfolding every any
 count_numbers_lem w = refl
 
-entry_numbers_lem : (w : List ℕ) (i : ℕ) → TellsOf entry_numbers (entry_checks w i)
+pub entry_numbers_lem : (w : List ℕ) (i : ℕ) → TellsListed entry_numbers (entry_checks w i)
 unfolding every any
 entry_numbers_lem w i = refl
 
 -- a refusal tells one of its call's numbers
-refused_among : {t : Told} {cs : List Check} {n : ℕ} {vs : List ℕ} (ns : List ℕ) → Follows t cs n vs → TellsOf ns cs
+refused_among : {t : Told} {cs : List Check} {n : ℕ} {vs : List ℕ} (ns : List ℕ) → Follows t cs n vs → TellsListed ns cs
     → (number place detail : ℕ) (us : List ℕ) → t ≡ refuses number place detail us → Among ns number
 refused_among {cs = cs} ns f e number place detail us h =
-    let r = (f.refused_by number place detail us h).0 in subst (Among ns) r.1 (first_among ns cs e (refuse r.0 place detail) r.2)
+    let r = (f.refused_by number place detail us h).0 in subst (Among ns) r.1 (first_listed ns cs e (refuse r.0 place detail) r.2).1
 
 -- What is told tells the answer.
 module _ {A : Type 0} (n : ℕ) (values : A → List ℕ) where
