@@ -197,7 +197,7 @@ module _ {A : Type 0} (f : ℕ → A → List Check) (d : A) where
           fault_append (f i x) (each_from (i + 1) f xs)
           ∙ rw (rw add-zero at (c 0 (omega arith))) (go (i + 1) xs k (le_of_suc-le-suc l) (rw (q k) e) (λ m h. rw (q m) (c (suc m) (suc-le-suc h))))
 
--- WHAT EACH CHECK of a list passes: each of its parts does, and no fault is that of a check that does not.
+-- A TEST THAT EACH CHECK of two lists passes is passed by each of both together, and by the first that fails.
 module _ (p : Check → Bool) where
   pub append_pass : (a b : List Check) → every p a ≡ true → every p b ≡ true → every p (a ++ b) ≡ true
   append_pass a b e f = every_append p a b ∙ rw (e, f)

@@ -38,7 +38,7 @@ at_its_number NumberOutside e = (refl, refl)
 at_its_number NumberTaken e = (refl, refl)
 at_its_number BookFull e = (refl, refl)
 at_its_number SaleUnknown e = (refl, refl)
-at_its_number (Unlisted number) e = (cc, cc)
+at_its_number (Unlisted number) e = never e refl
 
 pub its_number_is_in_the_table : (k : Reason) → is_listed k ≡ true → any (eqb (number_of_reason k)) numbers ≡ true
 its_number_is_in_the_table k e = (at_its_number k e).0

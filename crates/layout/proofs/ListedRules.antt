@@ -1,15 +1,20 @@
 -- NO ROW of the layout has the rule that is none (Unlisted), and none that is taken or looked up from rows without it.
 -- Assumes nothing.
-use Rattle.std.proofs.Common.{◌≡◌, ℕ, refl, Bool, true, false, cond, List, [], ◌∷◌, take, drop}
+use Rattle.std.proofs.Common.{◌≡◌, ℕ, refl, ap, Bool, true, false, cond, List, [], ◌∷◌, take, drop}
 use Rattle.common.specs.Lists.{every}
-use Rattle.common.proofs.Tests.{both_true}
+use Rattle.common.proofs.Tests.{never, both_true}
 use Rattle.common.proofs.Lists.{every_take, every_drop}
 use Rattle.layout.specs.Layout.{table_at, layout_from, layout}
 use Rattle.layout.specs.Fields.{row_with}
 use Rattle.layout.specs.Rules.{is_listed, AllListed}
 use Rattle.layout.specs.declared.Table.{Table}
 use Rattle.layout.specs.declared.rows.Row.{Row}
+use Rattle.layout.specs.declared.rules.Rule.{Rule}
+use Rattle.layout.specs.declared.rules.Rule.TheVariants.{Unlisted}
 use Rattle.layout.proofs.Tables.{at_each}
+
+pub a_listed_rule_is_one : (r : Rule) → is_listed r ≡ true → r ≡ Unlisted → ⊥
+a_listed_rule_is_one r e none = never e (ap is_listed none)
 
 pub the_layout_is_listed : AllListed layout
 unfolding layout layout_from table_at every
